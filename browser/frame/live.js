@@ -33,11 +33,7 @@ function takeSteps(isMore, same, given) {
     read = isMore ? steps.length : 0;
     steps.length = Math.min(steps.length, same);
     for (const it of given) steps.push(JSON.parse(it));
-    if (!isMore) {
-        rows.length = messages.length = 0;
-        for (const it of [lines, copies, parts, sets, nexts]) it.all.clear();
-        for (const it of [channels, waits, ...setsOf]) it.clear();
-    }
+    if (!isMore) forgetRun();
     histories.clear();
     readSteps();
     readRows();
@@ -59,7 +55,6 @@ function takeCaptions() {
 }
 
 function take({ number, text, fault, same, steps: given, to }) {
-    const line = at('follow').value;
     if (timer) play();
     taken = number;
     run.script = text;
@@ -69,16 +64,11 @@ function take({ number, text, fault, same, steps: given, to }) {
     takeSettings(text, fault && same + given.length === 0);
     takeSteps(same === steps.length && settings === JSON.stringify([shape, chosen]), same, given);
     takeCaptions();
-    at('follow').replaceChildren(...(ascending.length ? ascending : [0]).map(it => made('option', '', it)));
+    fillLines();
     at('title').textContent = titleOf();
     at('count').textContent = steps.length;
     at('step').max = steps.length;
-    const step = to === undefined ? steps.length : Math.min(to, steps.length);
-    const acted = step ? rows[step - 1].line : undefined;
-    at('follow').value = ascending.includes(acted) ? acted : ascending.includes(Number(line)) ? line : ascending[0] || 0;
-    // as far as the picture is scrolled to the step, before it is drawn
-    at('length').style.height = placed().length + 'px';
-    show(step);
+    show(to === undefined ? steps.length : to);
 }
 
 // ---- what is told of a step
@@ -125,19 +115,9 @@ function tell() {
         followed: followed(), moves: movesAt(now), cores: Array.from({ length: shape.cores }, (_, core) => coreAt(now, core)),
         answer: step ? step.answer : '' } }, '*');
 }
-// Of many cores the one that acted comes into view.
-function revealWho() {
-    const event = now && rows[now - 1].event;
-    if (!event) return;
-    const [place, view] = [placed(), at('time')];
-    const x = place.x(event.who);
-    const middle = (place.label + place.width) / 2;
-    if (x < place.label + HALF || x > place.width - 4 * HALF) view.scrollLeft += x - middle;
-}
 const showAlone = show;
 show = number => {
     showAlone(number);
-    revealWho();
     tell();
 };
 const followAlone = follow;
@@ -150,9 +130,9 @@ follow = line => {
 // access of that core
 
 at('diagram').addEventListener('click', event => {
-    const arrow = event.target.closest('[data-channel], [data-flying]');
+    const arrow = event.target.closest('[data-channel], [data-flying], .label');
     if (!arrow) return;
-    const channel = arrow.dataset.channel || arrow.dataset.flying;
+    const channel = arrow.dataset.channel || arrow.dataset.flying || messages[Number(arrow.dataset.of)].channel;
     const front = senderOf(channel);
     // an arrow of what was delivered already, or stands behind another, is a picture alone
     if (!front || arrow.dataset.sent && Number(arrow.dataset.sent) !== front.sent.step) return;
@@ -168,16 +148,11 @@ at('could').addEventListener('click', event => {
     if (row) parent.postMessage({ asked: { deliver: row.textContent.split('   ')[0] } }, '*');
 });
 document.addEventListener('keydown', event => {
-    const { key, ctrlKey, metaKey, shiftKey, target } = event;
+    const { key, ctrlKey, metaKey, shiftKey } = event;
     if ((ctrlKey || metaKey) && ['z', 'Z', 'y'].includes(key)) {
         event.preventDefault();
         parent.postMessage({ asked: { history: key === 'y' || shiftKey ? 'redo' : 'undo' } }, '*');
     }
-    // the keys of a clicker, where nothing is read that they would scroll
-    const by = { PageUp: -1, PageDown: 1 }[key];
-    if (!by || at('focus').contains(target)) return;
-    event.preventDefault();
-    show(now + by);
 });
 
 addEventListener('message', ({ source, data }) => {

@@ -155,7 +155,7 @@ def test_without_memory() -> None:
 GO = READERS + """
 <script>
 const read = [];
-const options = [...at('follow').options].map(it => it.value);
+const options = ascending.map(String);
 const choices = () => all('#could .choice');
 // what is drawn, and where, depends on how far the page is scrolled
 const DRAWN = ['bars', 'flying', 'cursor'];

@@ -68,7 +68,8 @@ function readStep() {
         leaving: all('.leaving', it).map(row => texts('td', row)),
         blocks: all('.copy', it).map(row => texts('td', row)) }));
     const met = all('#met tr').map(row => texts('th, td', row));
-    return { now: texts('#now .command')[0], answer: texts('#now .answer')[0], cores, met, lit: texts('#met .lit'),
+    return { now: texts('#now .command')[0], answer: texts('pre.answer')[0], report: cells(at('now')), cores, met,
+        lit: texts('#met .lit'), would: texts('#met .would'),
         rest: texts('#cores .rest'), could: texts('#could .rest') };
 }
 function tell(read) {
@@ -82,7 +83,7 @@ function tell(read) {
 READ_ALL = READERS + """
 <script>
 const read = [];
-const names = [...at('follow').options].map(it => it.value);
+const names = ascending.map(String);
 for (let step = 0; step <= steps.length; step++) {
     show(step);
     read.push({ step, ...readStep(), lines: names.map(line => { follow(line); return readLine(); }) });
@@ -90,7 +91,7 @@ for (let step = 0; step <= steps.length; step++) {
 // room for all of the run
 document.body.style.height = '12000px';
 const drawing = names.map(line => {
-    at('follow').value = line;
+    follow(line);
     show(steps.length);
     return { line, arrows: readArrows(), rings: all('.ring').length, edges: all('.mark').map(readEdges),
         rows: all('.row').map(it => [number(it, 'data-step'), number(it.querySelector('line'), 'y1')]) };
@@ -494,7 +495,8 @@ def check_cores(script: str, at: str, shown: list[str], step: dict[str, Any]) ->
         same(f"what core {core} writes back at {at}", sorted(leaving), sorted(got[core]["leaving"]))
         stay = [it for it in copies if it["state"] not in LEAVING]
         check_sets(shape, f"core {core} at {at}", stay, got[core]["sets"])
-    replies = [it for it in shown if re.match(r"core \d+ tag \d+ reply ", it)]
+    found = [re.match(r"(core \d+ tag \d+) reply (\d+)", it) for it in shown]
+    replies = [f"{it[1]}, number {it[2]} in the log" for it in found if it]
     same(f"replies at {at}", sorted(replies), sorted(it for it in step["rest"] if it.startswith("core ")))
 
 
@@ -553,11 +555,11 @@ def row_name(script: str, state: str, core: str | None) -> str:
 
 
 def check_row(script: str, at: str, step: dict[str, Any], answer: str, before: list[str]) -> None:
-    """Compares the row that is lit with the case of the explained answer."""
+    """Compares the row that is lit with the case of the explained answer. What found no room lights none, but is framed."""
     case = re.match(r"[^\n]*?   (core|dir) \d+ \((\S+), (.*?)\): (?:to (\w+))?", answer)
     words = step["now"].split()
     if not case:
-        return same(f"no row at {at}", [], step["lit"])
+        return same(f"no row at {at}", ([], []), (step["lit"], step["would"]))
     who, state, event, to = case.groups()
     if who == "dir":
         unnamed = f"line 0 dir {state} owner - sharers -"
@@ -573,8 +575,9 @@ def check_row(script: str, at: str, step: dict[str, Any], answer: str, before: l
             plain = title.replace(" (exclusive on)", "")
             if title in (column, f"{column} of r") or plain.startswith(column + ",") and cell.split("; ")[-1] == to:
                 lit.append(cell)
-    same(f"the row at {at}", (name, lit), (step["met"][1][0].replace(" (exclusive on)", "") if who == "core"
-                                          else step["met"][1][0], step["lit"]))
+    shown = step["met"][1][0].replace(" (exclusive on)", "") if who == "core" else step["met"][1][0]
+    is_in_vain = answer.startswith(("stall", "buffer full"))
+    same(f"the row at {at}", (name, *((([], lit) if is_in_vain else (lit, [])))), (shown, step["lit"], step["would"]))
     want(len(lit) >= 1, f"no cell is lit at {at}")
 
 
@@ -642,6 +645,16 @@ def check_performed(script: str, got: list[list[Any]]) -> None:
              [tuple(it) for it in got if it[0] == slice_])
 
 
+def check_answer(at: str, told: dict[str, Any], step: dict[str, Any]) -> None:
+    if told["call"]["name"] != "stats":
+        want(("moved" if is_in_pump(told) else told["answer"]).startswith(step["answer"]), f"{at} doesn't show its answer")
+        return
+    heads, *counts = [it.split() for it in told["answer"].split("\n") if it and not it.startswith("messages")]
+    same(f"the report at {at}", [["", *(f"core {it[0]}" for it in counts)],
+                                 *([name, *(it[place] for it in counts)] for place, name in enumerate(heads[1:], 1))],
+         step["report"])
+
+
 @seconds(8)
 @each(shown_scripts)
 def test_in_a_browser(name: str) -> None:
@@ -654,7 +667,7 @@ def test_in_a_browser(name: str) -> None:
     for step, states, told in zip(read[1:], wanted, steps):
         at, before = f"step {step['step']}", read[step["step"] - 1]
         same(f"command at {at}", told["command"], step["now"])
-        want(("moved" if is_in_pump(told) else told["answer"]).startswith(step["answer"]), f"{at} doesn't show its answer")
+        check_answer(at, told, step)
         check_cores(script, at, states.held, step)
         same(f"what can be delivered at {at}", [it.rsplit("   ", 1)[0] for it in states.messages if it.endswith("moves")],
              step["could"])
@@ -833,10 +846,9 @@ def test_a_long_run() -> None:
 
 WIDE = READERS + """
 <script>
+show(1);
+const read = { drawn: all('.bar').map(it => it.dataset.who) };
 show(steps.length);
-const read = { heads: texts('[data-chip]').length, drawn: all('.bar').map(it => it.dataset.who) };
-at('time').scrollLeft = 99999;
-draw();
 read.last = all('.bar').map(it => it.dataset.who);
 tell(read);
 </script>
@@ -845,7 +857,7 @@ tell(read);
 
 @seconds(20)
 def test_64_cores() -> None:
-    """Of many lifelines those in view are drawn, the directory's first."""
+    """Of many lifelines those in view are drawn: the directory's, which stays, and those about the core that acts."""
     script = "cores 64\n" + "".join(f"issue {core} 0 add 0 1\npump 99\n" for core in range(64))
     read = read_in_a_browser(script, WIDE, "--window-size=1280,900")
     first, last = set(read["drawn"]), set(read["last"])

@@ -1,9 +1,11 @@
 """Reads every word of a page's drawing and of what stands beside it in a real browser, and compares it with the
 explained answers of the script (`lockup script --explain`):
 
-- the letters of each bar are its state, and stand in it; the label of each arrow is its message, and stands at it;
+- the letters of each bar are its state, and stand beside it; the label of each arrow is its message, with the words that
+  the run names where there is room, and stands at it;
 - at a ring is what the message waits for, at a cross the answer, and at what was performed its number in the log, the
-  access and its reply, each at the row of its step and the lifeline of who did it;
+  access, and what it read or what its word was and is, each at the row of its step and the lifeline of who did it, and
+  in less where there is less room;
 - at the left edge stand the commands, numbered, each with its answer, and those of other lines are dim;
 - beside each step stand the comments before it, its command and answer, who met which case in which state, and what was
   done, in words; the same is said to those who listen; and what a pump would deliver next;
@@ -30,15 +32,18 @@ MOST = 24
 READ = READERS + """
 <script>
 const near = it => [it.getAttribute('data-who'), it.textContent, number(it, 'x'), number(it, 'y')];
-const beside = it => { const text = it.nextElementSibling; return { who: it.dataset.who, state: it.dataset.state,
-    x: number(it, 'x'), width: number(it, 'width'), y: number(it, 'y'), height: number(it, 'height'),
-    text: text.textContent, kind: text.getAttribute('class'), at: near(text) }; };
-const names = [...at('follow').options].map(it => it.value);
+const bar = it => ({ who: it.dataset.who, state: it.dataset.state, x: number(it, 'x'), width: number(it, 'width'),
+    y: number(it, 'y'), height: number(it, 'height') });
+const letters = it => ({ who: it.dataset.who, state: it.dataset.state, text: it.textContent, box: it.getBBox() });
+const boxed = ({ box, ...it }) => ({ ...it, x: box.x, width: box.width, y: box.y, height: box.height });
+const labelOf = it => document.querySelector(`.label[data-of="${it.dataset.of}"]`);
+const names = ascending.map(String);
 const read = { steps: [], lines: [] };
 for (let step = 0; step <= steps.length; step++) {
     show(step);
     read.steps.push({ caption: at('caption').textContent, command: texts('#now .command')[0],
-        answer: texts('#now .answer')[0], words: all('#now .words').map(it => it.firstChild.textContent)[0] || '', done: texts('#now .words li'),
+        answer: texts('pre.answer')[0] || '', words: all('#now .words').map(it => it.firstChild.textContent)[0] || '',
+        done: texts('#now .words li'),
         said: at('said').textContent, rest: texts('#cores .rest'), hidden: at('many').hidden,
         many: all('#lines tr').map(it => [...it.children].map(cell => [cell.textContent, cell.className])) });
 }
@@ -47,9 +52,10 @@ for (const line of names) {
     follow(line);
     show(steps.length);
     const heights = Object.fromEntries(all('.row').map(it => [it.dataset.step, number(it.querySelector('line'), 'y1')]));
-    read.lines.push({ line, heights, bars: all('.bar').map(beside),
+    read.lines.push({ line, heights, bars: all('.bar').map(bar),
+        letters: all('.letters:not([data-chip])').map(it => boxed(letters(it))),
         heads: Object.fromEntries(all('[data-chip]').map(it => [it.dataset.chip, number(it, 'x')])),
-        labels: all('[data-channel]').map(it => [it.dataset.name, texts('.label', it), near(it.querySelector('.label')),
+        labels: all('[data-channel]').map(it => [it.dataset.name, labelOf(it) ? near(labelOf(it)).slice(1) : null,
             ['x1', 'y1', 'x2', 'y2'].map(name => number(it.querySelector('line'), name))]),
         marks: all('.mark').map(it => [it.dataset.step, ...near(it)]),
         performed: all('.performed').map(it => [it.dataset.step, ...near(it)]),
@@ -138,7 +144,7 @@ def captions_of(script: str) -> dict[int, str]:
 
 
 def logs_of(script: str) -> list[list[str]]:
-    """Returns what each slice performed: the access, and its reply behind an arrow where it has one."""
+    """Returns what each slice performed: the access, and what it read, or what its word was and is."""
     slices = next((int(it.split()[1]) for it in split(script)[0] if it.split()[0] == "slices"), 1)
     looks = "".join(f"log {number}\n" for number in range(slices))
     out = lockup("script", "-", "--echo", text=f"{script.rstrip()}\n{looks}").out.splitlines()
@@ -149,8 +155,16 @@ def logs_of(script: str) -> list[list[str]]:
             if words[0] == "log":
                 break
             if words[0] == "entry":
-                logs[number].append(" ".join(words[4:-2]) + ("" if words[4] == "store" else f" → {words[-2]}"))
+                logs[number].append(performed_as(words[4:-2], words[-2]))
     return logs
+
+
+def performed_as(access: list[str], reply: str) -> str:
+    operands = list(map(int, access[2:]))
+    effect = {"load": reply, "store": "", "add": f"{reply} to {sum(operands, int(reply)) % 2**64}"}
+    if access[0] == "cas":
+        effect["cas"] = f"{reply} to {operands[1]}" if int(reply) == operands[0] else f"{reply} stays"
+    return ": ".join(filter(None, (" ".join(access), effect[access[0]])))
 
 
 def performed_by(step: Step, logs: list[list[str]]) -> list[tuple[int, str]]:
@@ -177,7 +191,7 @@ def check_step(number: int, count: int, step: Step, done: list[tuple[int, str]],
     head = f"{step.case.who} in {step.case.state}, {step.case.event}" if step.case else ""
     same(f"words at {at}", (head + ":" if head else "", words), (got["words"], got["done"]))
     same(f"command and answer at {at}", (step.command, step.said if step.case else step.answer),
-         (got["command"].strip(), got["answer"]))
+         (got["command"].strip(), got["answer"] if step.command != "stats" else step.answer))
     said = "; ".join([f"step {number} of {count}: {step.command}: {step.said}", *([head] if head else []), *words])
     # of an answer of several lines only the first counts here
     same(f"what is said at {at}", said.split("\n")[0], got["said"].split("\n")[0])
@@ -201,17 +215,23 @@ def check_lines(number: int, states: list[str], got: dict[str, Any]) -> None:
 
 
 def check_bars(got: dict[str, Any]) -> None:
+    for it in got["letters"]:
+        same(f"letters of {it['who']}", it["state"], it["text"])
     for bar in got["bars"]:
-        same(f"letters of {bar['who']}", (bar["state"], bar["who"], "letters"), (bar["text"], bar["at"][0], bar["kind"]))
-        x, y = bar["at"][2:]
-        beside = bar["x"] - 10 <= x <= bar["x"] + bar["width"] + 10
-        want(beside and 0 < y - bar["y"] < 20, f"'{bar['text']}' stands at {x}, {y}, its bar {bar}")
+        def is_beside(it: dict[str, Any]) -> bool:
+            away = max(bar["x"] - it["x"] - it["width"], it["x"] - bar["x"] - bar["width"])
+            return 0 < away < 10 and -1 < it["y"] - bar["y"] < 10
+        own = [it["text"] for it in got["letters"] if it["who"] == bar["who"] and is_beside(it)]
+        same(f"letters of {bar['who']} at {bar['y']}", [bar["state"]], own)
 
 
 def check_labels(got: dict[str, Any]) -> None:
-    for name, labels, (_, _, x, y), (x1, y1, x2, y2) in got["labels"]:
-        same("the label of an arrow", [name], labels)
-        want(min(x1, x2) <= x <= max(x1, x2) and y1 - 10 < y < y2, f"'{name}' stands at {x}, {y}, its arrow {got}")
+    for name, label, (x1, y1, x2, y2) in got["labels"]:
+        want(label, f"'{name}' stands nowhere")
+        text, x, y = label
+        same("the label of an arrow", name if ":" in text or text == name else name.split()[0], text.split(":")[0])
+        way = y1 + (y2 - y1) * (x - x1) / (x2 - x1)
+        want(min(x1, x2) <= x <= max(x1, x2) and -20 < y - way < 30, f"'{text}' stands at {x}, {y}, its arrow at {way}")
 
 
 def check_marks(steps: list[Step], logs: list[list[str]], got: dict[str, Any]) -> None:
@@ -220,16 +240,22 @@ def check_marks(steps: list[Step], logs: list[list[str]], got: dict[str, Any]) -
     marks, performed = [], []
     for number, step in own:
         if step.case and step.answer.startswith("blocked"):
-            marks.append((str(number), step.case.who, f"blocked: {step.case.done[0]}"))
+            marks.append((str(number), step.case.who, [f"blocked: {step.case.done[0]}", "blocked"]))
         elif step.case and re.match("stall|busy|buffer full", step.answer):
-            marks.append((str(number), step.case.who, step.said))
-        for entry, access in performed_by(step, logs)[:3]:
-            performed.append((str(number), step.case.who, f"#{entry} {access}"))
-    same(f"marks of line {got['line']}", marks, [tuple(it[:3]) for it in got["marks"] if it[0] in about])
-    same(f"what was performed on line {got['line']}", performed, [tuple(it[:3]) for it in got["performed"]])
+            marks.append((str(number), step.case.who, [step.said, step.said.split()[0]]))
+        for entry, access in performed_by(step, logs):
+            value = access.split(": ")[-1].split()[-1] if access.startswith("store") else access.split(": ")[-1]
+            texts = [f"#{entry} {access}", access, f"#{entry}: {value}", value, f"#{entry}"]
+            performed.append((str(number), step.case.who, texts))
+    for what, wanted in (("marks", marks), ("performed", performed)):
+        found = sorted(((it[0], it[1], it[2]) for it in got[what] if it[0] in about), key=lambda it: int(it[0]))
+        same(f"{what} of line {got['line']}", [it[:2] for it in wanted], [it[:2] for it in found])
+        for (step_number, _, texts), (_, _, text) in zip(wanted, found):
+            want(text in texts, f"'{text}' stands at step {step_number} for {texts}")
+    want(all(it[0] in about for it in got["performed"]), f"something else is performed on line {got['line']}")
     for step, who, text, x, y in got["marks"] + got["performed"]:
         want(abs(x - got["heads"][who]) < 25, f"'{text}' doesn't stand at {who}")
-        want(-10 < y - got["heights"][step] < 60, f"'{text}' doesn't stand at step {step}")
+        want(-10 < y - got["heights"][step] < 30 + 13 * len(got["performed"]), f"'{text}' doesn't stand at step {step}")
 
 
 def check_rows(steps: list[Step], got: dict[str, Any]) -> None:

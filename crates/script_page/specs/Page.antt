@@ -12,12 +12,18 @@ use Rattle.protocol_tables.specs.Directory.{table_of as directory_table}
 use Rattle.script_page.specs.Json.{json_of}
 use Rattle.script_page.specs.Steps.{Steps}
 use Rattle.script_page.specs.declared.extras.PageExtras.{PageExtras}
+use Rattle.script_page.specs.declared.frame.arrows.TheConstants.{ARROWS}
 use Rattle.script_page.specs.declared.frame.branches.TheConstants.{BRANCHES}
 use Rattle.script_page.specs.declared.frame.controls.TheConstants.{STORY, TAIL}
 use Rattle.script_page.specs.declared.frame.diagram.TheConstants.{DIAGRAM}
 use Rattle.script_page.specs.declared.frame.focus.TheConstants.{FOCUS}
 use Rattle.script_page.specs.declared.frame.guess.TheConstants.{GUESS}
 use Rattle.script_page.specs.declared.frame.head.TheConstants.{BODY, HEAD}
+use Rattle.script_page.specs.declared.frame.labels.TheConstants.{LABELS}
+use Rattle.script_page.specs.declared.frame.lanes.TheConstants.{LANES}
+use Rattle.script_page.specs.declared.frame.legend.TheConstants.{LEGEND}
+use Rattle.script_page.specs.declared.frame.marks.TheConstants.{MARKS}
+use Rattle.script_page.specs.declared.frame.place.TheConstants.{PLACE}
 use Rattle.script_page.specs.declared.frame.run.TheConstants.{RUN}
 use Rattle.script_page.specs.declared.frame.time.TheConstants.{TIME}
 use Rattle.slice_core_plan.specs.Calls.{PartsView}
@@ -38,10 +44,15 @@ code_if false code = []
 abbrev pub code_of_extras : PageExtras → List ℕ
 code_of_extras extras = code_if (nat_lt 0 extras.depth) BRANCHES.now ++ code_if extras.guess GUESS.now
 
+-- the code of the diagram
+unfoldable pub code_of_diagram : List ℕ
+code_of_diagram =
+    PLACE.now ++ (LABELS.now ++ (LANES.now ++ (ARROWS.now ++ (MARKS.now ++ (DIAGRAM.now ++ LEGEND.now)))))
+
 -- the code of the page
 unfoldable pub code_of_page : PageExtras → List ℕ
 code_of_page extras =
-    RUN.now ++ (TIME.now ++ (DIAGRAM.now ++ (FOCUS.now ++ (STORY.now ++ (code_of_extras extras ++ TAIL.now)))))
+    RUN.now ++ (TIME.now ++ (code_of_diagram ++ (FOCUS.now ++ (STORY.now ++ (code_of_extras extras ++ TAIL.now)))))
 
 -- .. and what stands behind the steps
 abbrev pub text_of_end : PageExtras → List ℕ

@@ -5,8 +5,8 @@
 //! has it then (specs/Step.antt): a line ([`line`]) with its messages ([`message`]), a core ([`core_part`]) with its copy
 //! ([`copy`]), and what was performed ([`access`]). The steps are one value of JSON in a page whose own code
 //! (`src/frame`) shows them: `head` its look and parts, `run` reads the value, `time` finds what happened when, `diagram`
-//! draws it, `focus` tells one step, and `controls` moves through the steps and prints them; `branches` and `guess` are
-//! there where they are asked for.
+//! draws it (`place`, `labels`, `lanes`, `arrows`, `marks`), `legend` says what its signs are, `focus` tells one step,
+//! and `controls` moves through the steps and prints them; `branches` and `guess` are there where they are asked for.
 //!
 //! What a step doesn't give is as it was, as the machine's calls leave it ([`what_is_not_given_stays`]).
 //!

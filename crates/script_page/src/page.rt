@@ -10,17 +10,24 @@ ghost use Rattle.litmus_text.specs.Statement.{statements_from};
 ghost use Rattle.protocol_tables.specs.Cache.{table_of as cache_table};
 ghost use Rattle.protocol_tables.specs.Directory.{table_of as directory_table};
 ghost use Rattle.script_page.specs.Page.{HasSteps, IsFaultAtDepth, IsPage, IsPageFault, IsPageOf, IsPageWith};
-ghost use Rattle.script_page.specs.Page.{PageStopsAt, code_if, code_of_extras, code_of_page, text_of_begin, text_of_end};
+ghost use Rattle.script_page.specs.Page.{PageStopsAt, code_if, code_of_diagram, code_of_extras, code_of_page};
+ghost use Rattle.script_page.specs.Page.{text_of_begin, text_of_end};
 ghost use Rattle.slice_core_plan.specs.Calls.{PartsView};
 
 use super::core_part::write_whole;
 use super::extras::PageExtras;
+use super::frame::arrows::ARROWS;
 use super::frame::branches::BRANCHES;
 use super::frame::controls::{STORY, TAIL};
 use super::frame::diagram::DIAGRAM;
 use super::frame::focus::FOCUS;
 use super::frame::guess::GUESS;
 use super::frame::head::{BODY, HEAD};
+use super::frame::labels::LABELS;
+use super::frame::lanes::LANES;
+use super::frame::legend::LEGEND;
+use super::frame::marks::MARKS;
+use super::frame::place::PLACE;
 use super::frame::run::RUN;
 use super::frame::time::TIME;
 use super::json::write_json;
@@ -246,11 +253,24 @@ fn write_code<W: fmt::Write>(extras: PageExtras, out: &mut W) -> fmt::Result
 {
     out.write_str(RUN)?;
     out.write_str(TIME)?;
-    out.write_str(DIAGRAM)?;
+    write_diagram(out)?;
     out.write_str(FOCUS)?;
     out.write_str(STORY)?;
     write_extras(extras, out)?;
     out.write_str(TAIL)
+}
+
+/// Writes the code of the diagram.
+fn write_diagram<W: fmt::Write>(out: &mut W) -> fmt::Result
+    ensures { OnOk result (WritesInCalls W.write_str_gives out.old code_of_diagram out.new) }
+{
+    out.write_str(PLACE)?;
+    out.write_str(LABELS)?;
+    out.write_str(LANES)?;
+    out.write_str(ARROWS)?;
+    out.write_str(MARKS)?;
+    out.write_str(DIAGRAM)?;
+    out.write_str(LEGEND)
 }
 
 /// Writes the code of what a page has besides the run.

@@ -24,26 +24,27 @@ const branchName = () => `A branch, not the run: behind step ${branch.begins} of
 
 // has the page show these steps
 function takeSteps(all) {
-    steps.length = rows.length = messages.length = ascending.length = 0;
+    steps.length = ascending.length = 0;
     for (const it of all) steps.push(it);
-    for (const it of [lines, copies, parts, sets, nexts]) it.all.clear();
-    for (const it of [channels, waits, histories, ...setsOf]) it.clear();
+    forgetRun();
     readSteps();
     readRows();
     for (const line of [...lines.all.keys()].sort((a, b) => a - b)) ascending.push(line);
+    fillLines();
     at('count').textContent = steps.length;
     at('step').max = steps.length;
 }
 
 // goes from the step that is shown to what stands behind one of its choices
 function enterBranch(choice) {
-    const shown = branch ? branch.shown : { line: at('follow').value, captions: captions.slice() };
+    const shown = branch ? branch.shown : { lines: chosenLines, captions: captions.slice() };
     const begins = branch ? Math.min(branch.begins, now) : now;
     const taken = branch ? branch.taken.slice(0, now - begins) : [];
     branch = { begins, taken: [...taken, choice], shown };
     takeSteps([...run.steps.slice(0, begins), ...branch.taken]);
     captions.length = Math.min(captions.length, begins + 1);
-    at('follow').value = choice.call.line;
+    if (chosenLines.length && !chosenLines.includes(choice.call.line)) chosenLines = [choice.call.line];
+    tellChosen();
     show(steps.length);
     (at('could').querySelector('.choice') || banner.lastChild).focus();
 }
@@ -53,7 +54,8 @@ function leaveBranch() {
     branch = null;
     takeSteps(run.steps.slice(0, -1));
     shown.captions.forEach((it, step) => { captions[step] = it; });
-    at('follow').value = shown.line;
+    chosenLines = shown.lines;
+    tellChosen();
     show(begins);
     const choices = [...at('could').querySelectorAll('.choice')];
     const left = choices.find(it => it.textContent.startsWith(taken[0].command + '   '));
@@ -84,6 +86,8 @@ show = number => {
     document.body.classList.toggle('in-branch', branch !== null);
     banner.hidden = branch === null;
     if (branch) {
+        // the run's end isn't that of the branch
+        for (const it of at('now').querySelectorAll('.ends')) it.remove();
         banner.firstChild.textContent = branchName();
         at('said').textContent = 'a branch, not the run: ' + at('said').textContent;
     }
@@ -95,6 +99,7 @@ draw = () => {
     for (const it of at('diagram').querySelectorAll('.row')) {
         it.classList.toggle('branched', branch !== null && Number(it.dataset.step) > branch.begins);
     }
+    if (branch) for (const it of at('diagram').querySelectorAll('.ends')) it.remove();
 };
 const tellPlain = tellStory;
 tellStory = () => {

@@ -55,11 +55,11 @@ function show(number) {
     const before = now;
     now = Math.min(Math.max(Math.floor(number) || 0, 0), steps.length);
     at('step').value = now;
-    clearTimeout(later);
-    later = setTimeout(() => history.replaceState(null, '', '#step=' + now), 200);
+    keepLink();
     reveal();
     draw();
     showNow();
+    showEnd();
     showMet();
     showTables();
     showLine();
@@ -70,11 +70,11 @@ function show(number) {
     if (now === before + 1) move(Math.min(900, speed() * 0.7));
 }
 
-function follow(line) {
-    at('follow').value = line;
-    draw();
-    showLine();
-    showMany();
+// The step at which something happens next, or did before: what only looks, and what a pump leaves, is passed over.
+function eventFrom(step, by) {
+    let found = step + by;
+    while (found > 0 && found < steps.length && !rows[found - 1].event) found += by;
+    return found;
 }
 
 function play() {
@@ -90,21 +90,88 @@ function play() {
     at('play').textContent = timer ? 'stop' : 'play';
 }
 function next() {
-    show(now + 1);
+    show(eventFrom(now, 1));
     timer = now < steps.length ? setTimeout(next, speed()) : 0;
     at('play').textContent = timer ? 'stop' : 'play';
 }
 
-function stepOf(hash) {
-    return hash.startsWith('#step=') ? Number(hash.slice(6)) || 0 : 0;
+// ---- what is shown, and how large
+
+// Shows these lines; without any, those that the steps are about.
+function choose(some) {
+    chosenLines = some.filter(it => ascending.includes(it));
+    tellChosen();
+    keepLink();
+    reveal();
+    draw();
+    showLine();
+    showMany();
 }
+function follow(line) {
+    choose(line === '' ? [] : [Number(line)]);
+}
+function fillLines() {
+    const plain = made('option', '', 'of the step');
+    plain.value = '';
+    at('follow').replaceChildren(plain, ...ascending.map(it => made('option', '', it)));
+    chosenLines = chosenLines.filter(it => ascending.includes(it));
+    tellChosen();
+}
+function tellChosen() {
+    const several = at('follow').querySelector('.several');
+    if (several) several.remove();
+    const text = chosenLines.join(', ');
+    if (chosenLines.length > 1) at('follow').append(made('option', 'several', text));
+    at('follow').value = text;
+}
+
+function resize(value) {
+    takeZoom(value);
+    keepLink();
+    reveal();
+    draw();
+    showMany();
+}
+const larger = by => resize(ZOOMS[Math.min(ZOOMS.length - 1, Math.max(0, ZOOMS.findLastIndex(it => it <= zoom) + by))]);
+// For a projector all is larger, and nothing of what comes is shown.
+const PROJECTED = 1.5;
+function project() {
+    const { checked } = at('projector');
+    document.body.classList.toggle('projector', checked);
+    resize(checked ? Math.max(zoom, PROJECTED) : 1);
+}
+
+// ---- the link: the step, the lines that were chosen, how large all is, and whether it is for a projector
+
+function linkOf() {
+    const said = { step: now, line: chosenLines.join(), zoom: zoom === 1 ? '' : zoom,
+        projector: at('projector').checked ? 'on' : '' };
+    return '#' + Object.entries(said).filter(it => it[1] !== '').map(it => it.join('=')).join('&');
+}
+function keepLink() {
+    clearTimeout(later);
+    later = setTimeout(() => history.replaceState(null, '', linkOf()), 200);
+}
+function openLink() {
+    const said = new URLSearchParams(location.hash.slice(1));
+    at('projector').checked = said.get('projector') === 'on';
+    document.body.classList.toggle('projector', at('projector').checked);
+    takeZoom(Number(said.get('zoom')));
+    chosenLines = (said.get('line') || '').split(',').filter(it => /^\d+$/.test(it)).map(Number);
+    fillLines();
+    showFault();
+    show(Number(said.get('step')));
+}
+
+// ---- keys
 
 // what keeps its own keys: where one writes or chooses, and for the space bar whatever it presses
 const WRITES = ['INPUT', 'SELECT', 'TEXTAREA'];
 const PRESSES = ['BUTTON', 'SUMMARY', 'A'];
 function press(event) {
-    if (event.altKey || event.ctrlKey || event.metaKey || WRITES.includes(event.target.tagName)) return;
-    if (event.key === ' ' && PRESSES.includes(event.target.tagName)) return;
+    if (event.altKey || event.ctrlKey || event.metaKey) return;
+    if (WRITES.includes(event.target.tagName) && event.target.type !== 'checkbox') return;
+    if (event.key === ' ' && [...PRESSES, 'INPUT'].includes(event.target.tagName)) return;
     const inTime = at('time').contains(event.target);
     const keys = {
         ArrowLeft: () => show(now - 1),
@@ -112,16 +179,18 @@ function press(event) {
         Home: () => show(0),
         End: () => show(steps.length),
         ' ': play,
+        '+': () => larger(1),
+        '-': () => larger(-1),
         ...inTime && { ArrowUp: () => show(now - 1), ArrowDown: () => show(now + 1) },
+        // the keys of a clicker, but where they scroll what is read
+        ...!at('focus').contains(event.target) && { PageUp: () => show(eventFrom(now, -1)),
+            PageDown: () => show(eventFrom(now, 1)) },
     };
-    if (!keys[event.key]) return;
+    if (!Object.hasOwn(keys, event.key)) return;
     event.preventDefault();
     keys[event.key]();
 }
 
-for (const line of ascending) at('follow').append(made('option', '', line));
-if (ascending.length === 0) at('follow').append(made('option', '', '0'));
-at('follow').value = lines.all.size ? [...lines.all.keys()][0] : 0;
 at('title').textContent = titleOf();
 document.title = titleOf() + ' - lockup';
 at('count').textContent = steps.length;
@@ -133,7 +202,9 @@ at('last').onclick = () => show(steps.length);
 at('play').onclick = play;
 at('step').onchange = () => show(Number(at('step').value));
 at('follow').onchange = () => follow(at('follow').value);
+at('projector').onchange = project;
 at('tables').ontoggle = showTables;
+at('legend').ontoggle = showLegend;
 at('time').onscroll = draw;
 at('lines').onscroll = showMany;
 at('diagram').onclick = event => {
@@ -141,11 +212,11 @@ at('diagram').onclick = event => {
     if (row) show(Number(row.dataset.step));
 };
 window.onresize = () => { reveal(); draw(); };
-window.onhashchange = () => show(stepOf(location.hash));
+window.onhashchange = openLink;
 window.onbeforeprint = tellStory;
 document.onkeydown = press;
 readScript();
-show(stepOf(location.hash));
+openLink();
 </script>
 </body>
 </html>

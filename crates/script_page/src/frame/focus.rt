@@ -25,6 +25,15 @@ function readScript() {
     if (run.fault) at('script').querySelector('.script').append(made('div', '', run.fault));
 }
 
+// that a line which can't be taken, or a lack of memory, ends the run: above all, and at the last step
+function showFault() {
+    at('fault').hidden = !run.fault;
+    at('fault').textContent = run.fault ? 'This run ends early: ' + run.fault : '';
+}
+function showEnd() {
+    if (run.fault && now === steps.length) at('now').append(made('p', 'ends', 'The run ends here: ' + run.fault));
+}
+
 // the run's name: how its first comment begins
 function titleOf() {
     const comment = script.find(it => it.startsWith('#')) || '';
@@ -55,11 +64,22 @@ function showNow() {
         at('now').replaceChildren('Before the first command.');
         return;
     }
+    const said = row.event ? row.said : steps[now - 1].answer.trimEnd();
     const parts = [made('div', 'command', made('code', '', steps[now - 1].command)),
-        made('pre', row.call.name === 'stats' ? 'answer report' : 'answer',
-            row.event ? row.said : steps[now - 1].answer.trimEnd())];
+        row.call.name === 'stats' ? reportOf(said) : made('pre', 'answer', said)];
     if (row.event) parts.push(happened(row));
     at('now').replaceChildren(...parts);
+}
+
+// a report, upright: a column for each core
+function reportOf(text) {
+    const lines = text.split('\n').map(it => it.trim());
+    const isOfCores = it => !it.startsWith('messages');
+    const [heads, ...counts] = lines.filter(isOfCores).map(it => it.split(/\s+/));
+    const table = tableFrom('', ['', ...counts.map(it => coreName(it[0]))], heads.slice(1).map((name, place) =>
+        made('tr', '', made('th', '', name), ...counts.map(it => made('td', '', it[place + 1])))));
+    const messages = lines.filter(it => !isOfCores(it)).map(it => made('p', '', it));
+    return made('div', 'answer report tables', table, ...messages);
 }
 
 // what moved, for those who listen
@@ -103,36 +123,41 @@ function isRowFor(row, entry, core, exclusive) {
     return row === (!asks ? 'S_D, sharers o, x' : sharers.length === 1 ? 'S_D, sharers r' : 'S_D, sharers o, r');
 }
 
-// the case that a step met: in which table, which row and which columns
+// The case that a step met: in which table, which row and which columns. What was in vain would have been that case.
 const EVENTS = { load: 'load', write: 'write', eviction: 'eviction' };
 function caseOf(number) {
-    const { event, call } = rows[number - 1] || {};
-    if (!event) return null;
+    const row = rows[number - 1];
+    if (!row || !row.event) return null;
+    const { event, call } = row;
     const column = event.kindOf || EVENTS[event.name];
+    const lit = isInVain(row) ? 'would' : 'lit';
     if (event.kind === 'core') {
         const plain = it => it.replace(' (exclusive on)', '');
         const fits = (title, cell) => title === column
             || (plain(title).startsWith(column + ',') && (!event.next || cell.split('; ').pop() === event.next));
-        return { who: event.kind, row: it => plain(it) === event.state, fits };
+        return { who: event.kind, lit, row: it => plain(it) === event.state, fits };
     }
     const entry = lineAt(number - 1, event.line);
     const core = call.class === 'req' ? call.from : undefined;
     const fits = title => title === column || title === column + ' of r';
-    return { who: event.kind, row: it => isRowFor(it, entry, core, chosen.exclusive === 'on'), fits };
+    return { who: event.kind, lit, row: it => isRowFor(it, entry, core, chosen.exclusive === 'on'), fits };
 }
 
+// What the tables have for the other setting of `exclusive`. Without E no core is sent a forward before its Data.
+const ONLY_WITH_E = { IS_D: ['Fwd-GetS', 'Fwd-GetM'] };
+const isOfOther = title => title.includes(chosen.exclusive === 'on' ? '(exclusive off)' : '(exclusive on)');
+const isOff = (row, column) => isOfOther(row) || isOfOther(column)
+    || chosen.exclusive !== 'on' && Object.hasOwn(ONLY_WITH_E, row) && ONLY_WITH_E[row].includes(column);
+
+function cellIn([heads], row, column, met) {
+    const [title, cell] = [heads[column], row[column]];
+    if (row === heads || column === 0) return made('th', isOfOther(cell) ? 'off' : '', cell);
+    if (isOff(row[0], title)) return made('td', 'off', '-');
+    return made('td', met && met.row(row[0]) && met.fits(title, cell) ? met.lit : '', cell);
+}
 function tableOf(cells, met, isWhole) {
-    const table = made('table');
-    cells.forEach((row, order) => {
-        if (!isWhole && order > 0 && !met.row(row[0])) return;
-        const shown = made('tr');
-        row.forEach((cell, column) => {
-            const is = order > 0 && column > 0 && met && met.row(row[0]) && met.fits(cells[0][column], cell);
-            shown.append(made(order === 0 || column === 0 ? 'th' : 'td', is ? 'lit' : '', cell));
-        });
-        table.append(shown);
-    });
-    return table;
+    const shown = cells.filter((row, order) => isWhole || order === 0 || met.row(row[0]));
+    return made('table', '', ...shown.map(row => made('tr', '', ...row.map((_, column) => cellIn(cells, row, column, met)))));
 }
 
 // the one row that was met, of the table that has the event
@@ -144,8 +169,9 @@ function showMet() {
     const [name] = tables[met.who].filter(it => it[0].some((column, order) => order > 0
         && it.some(row => met.row(row[0]) && met.fits(column, row[order]))));
     if (!name) return;
+    if (met.lit === 'would') at('met').append(made('p', '', 'Not taken. With room it would be the framed one:'));
     at('met').append(tableOf(name, met, false));
-    const lit = at('met').querySelector('.lit');
+    const lit = at('met').querySelector('.lit, .would');
     if (lit) at('met').scrollLeft = Math.max(0, lit.offsetLeft - 120);
 }
 
@@ -167,8 +193,11 @@ function senderOf(channel) {
 }
 
 function showLine() {
-    const line = lineAt(now, followed());
-    const before = lineAt(Math.max(now - 1, 0), followed());
+    at('line').replaceChildren(...shownLines.map(partOfLine));
+}
+function partOfLine(number) {
+    const line = lineAt(now, number);
+    const before = lineAt(Math.max(now - 1, 0), number);
     const shared = line.sharers.length ? 'sharers ' + line.sharers : 'no copies';
     const who = line.owner !== null ? 'owner ' + line.owner : shared;
     const entry = made('span', 'cell state-' + line.dir, line.dir);
@@ -177,16 +206,16 @@ function showLine() {
     const home = line.home.join(' ');
     const kind = before.home.length && before.home.join(' ') !== home ? 'word changed' : 'word';
     if (home) parts.push(made('div', kind, 'home copy ' + home));
-    const list = made('ul', 'messages');
-    for (const it of line.messages) {
-        const channel = channelOf(line.line, it);
-        const message = senderOf(channel);
-        const way = message ? `${message.from} → ${message.to}` : '';
-        list.append(made('li', '', made('b', it.class, nameOf(it)), ` ${way}: ${fateOf(now, line.line, it)} `,
-            made('small', '', `(${channel})`)));
-    }
-    parts.push(made('h3', '', list.children.length ? 'Channels' : 'Channels: no message in flight'), list);
-    at('line').replaceChildren(...parts);
+    const list = made('ul', 'messages', ...line.messages.map(it => channelIn(line, it)));
+    const heading = line.messages.length ? 'Channels' : 'Channels: no message in flight';
+    return made('section', '', ...parts, made('h3', '', heading), list);
+}
+function channelIn(line, it) {
+    const channel = channelOf(line.line, it);
+    const message = senderOf(channel);
+    const way = message ? `${message.from} → ${message.to}` : '';
+    return made('li', '', made('b', it.class, nameOf(it)), ` ${way}: ${fateOf(now, line.line, it)} `,
+        made('small', '', `(${channel})`));
 }
 
 const tableFrom = (caption, heading, body) => {
@@ -262,7 +291,7 @@ function tableOfCore(core) {
 // the replies that aren't handed out, and what each slice would deliver next
 function restOf() {
     const replies = Array.from({ length: shape.cores }, (_, core) => partsOf(core).flatMap(it => it.replies)
-        .map(it => `core ${core} tag ${it.tag} reply ${it.number}`)).flat();
+        .map(it => `core ${core} tag ${it.tag}, number ${it.number} in the log`)).flat();
     const next = slices.map(slice => [slice, nexts.at(slice, now)]).filter(([, it]) => it)
         .map(([slice, it]) => `slice ${slice} next ${channelOf(it.line, it)}`);
     return [...replies, ...next];
@@ -293,24 +322,30 @@ function showCores() {
 
 // ---- all lines, small
 
-// Of many lines those in view alone are drawn.
+// Of many lines those in view alone are drawn. A click on one shows it alone, its box shows it beside others.
 const LINE = 27;
 function showMany() {
     const given = givenAt(now);
     at('many').hidden = ascending.length < 2;
     if (at('many').hidden) return;
     const view = at('lines');
-    const first = Math.max(0, Math.floor(view.scrollTop / LINE) - 2);
-    const few = Array.from({ length: Math.min(shape.cores, 16) }, (_, core) => core);
-    const rows = given.slice(first, first + 14).map(line => {
-        const row = made('tr', line === followed() ? 'followed' : '', made('th', '', 'line ' + line),
-            cellOf(lineAt(now, line).dir), ...few.map(core => cellOf(copyAt(now, core, line).state)));
-        row.onclick = () => follow(line);
-        return row;
-    });
+    const first = Math.max(0, Math.floor(view.scrollTop / (LINE * zoom)) - 2);
+    const rows = given.slice(first, first + 14).map(rowOfLine);
     const table = made('table', '', ...rows);
-    table.style.marginTop = first * LINE + 'px';
-    table.style.marginBottom = Math.max(0, given.length - first - rows.length) * LINE + 'px';
+    table.style.marginTop = first * LINE * zoom + 'px';
+    table.style.marginBottom = Math.max(0, given.length - first - rows.length) * LINE * zoom + 'px';
     view.replaceChildren(table);
+}
+function rowOfLine(line) {
+    const shown = shownLines;
+    const few = Array.from({ length: Math.min(shape.cores, 16) }, (_, core) => core);
+    const box = made('input');
+    Object.assign(box, { type: 'checkbox', checked: shown.includes(line), ariaLabel: `line ${line} in the picture` });
+    box.onclick = event => event.stopPropagation();
+    box.onchange = () => choose(box.checked ? [...shown, line] : shown.filter(it => it !== line));
+    const row = made('tr', shown.includes(line) ? 'followed' : '', made('th', '', box, 'line ' + line),
+        cellOf(lineAt(now, line).dir), ...few.map(core => cellOf(copyAt(now, core, line).state)));
+    row.onclick = () => follow(line);
+    return row;
 }
 "#;

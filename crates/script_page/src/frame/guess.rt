@@ -6,7 +6,6 @@ pub const GUESS: &str = r#"
 
 document.head.append(made('style', '', `
 .guessing .coming { opacity: 1; pointer-events: auto; }
-#hides { width: auto; }
 #question { border: 1px solid var(--edge); border-radius: 6px; padding: .3rem .8rem; margin: .4rem 0; }
 #question p { margin: .2rem 0; }
 #guess { width: min(100%, 24rem); font-family: ui-monospace, monospace; }
@@ -55,12 +54,15 @@ question.querySelector('button:last-of-type').type = 'button';
 question.querySelector('button:last-of-type').onclick = () => learn('it answered: ');
 hides.onchange = () => show(now);
 
+const isAllShown = isFutureShown;
+isFutureShown = () => isAllShown() && !hides.checked;
+
 // The page shows what it shows of any step, but none behind the first whose answer isn't known.
 const showAny = show;
 show = number => {
     const to = knownTo();
-    showAny(hides.checked ? Math.min(number, to) : number);
     document.body.classList.toggle('guessing', hides.checked);
+    showAny(hides.checked ? Math.min(number, to) : number);
     question.hidden = !hides.checked || now < to || to === steps.length;
     if (!question.hidden) {
         question.firstChild.replaceChildren('What does ', made('code', '', steps[to].command), ' answer?');

@@ -14,8 +14,8 @@ const chosen = { policy: 'lru', misses: 'explicit', exclusive: 'off' };
 const script = run.script.split('\n').map(it => it.replace(/\r$/, ''));
 for (const text of script) {
     const [name, value] = text.trim().split(/\s+/);
-    if (name in shape && /^\d+$/.test(value)) shape[name] = Number(value);
-    if (name in chosen && value) chosen[name] = value;
+    if (Object.hasOwn(shape, name) && /^\d+$/.test(value)) shape[name] = Number(value);
+    if (Object.hasOwn(chosen, name) && value) chosen[name] = value;
 }
 const sliceOf = line => line % shape.slices;
 const setOf = line => Math.floor(line / shape.slices) % shape.sets;

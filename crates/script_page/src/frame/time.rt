@@ -1,6 +1,7 @@
 //! The page's code: what happened when.
 
-/// The rows of time, and the messages from their sending to their delivery.
+/// The rows of time, the messages from their sending to their delivery, and the accesses from their issue to their
+/// performance.
 pub const TIME: &str = r#"
 // ---- time
 
@@ -30,16 +31,23 @@ function rowOf(it, before) {
     const isMade = it.call.name === 'deliver' && said.startsWith('deliver ');
     const event = said.startsWith('refused') ? null : eventOf(step, it, told);
     return { step, text: it.command.trim(), within: isMade, said: isMade ? 'moved' : said, told, event,
-        line: it.call.line, call: it.call, plan: it.plan, done: event ? told.slice(told.indexOf('): ') + 3).split('; ') : [],
+        line: it.call.line, victim: it.victim ? it.victim.line : undefined, call: it.call, plan: it.plan,
+        done: event ? told.slice(told.indexOf('): ') + 3).split('; ') : [],
         performed: it.performed ? performedBy(it.performed) : [] };
 }
 
-// what was performed, with its number in the slice's log and its reply
+// what was performed, with its number in the slice's log, its reply, and what it read or did to its word
 function performedBy({ slice, first, entries }) {
-    return entries.map((it, place) => ({ slice, number: first + place, access: accessOf(it, it.word), op: it.op,
-        reply: it.reply }));
+    return entries.map((it, place) => ({ slice, number: first + place, core: it.core, tag: it.tag, op: it.op,
+        access: accessOf(it, it.word), reply: it.reply, effect: effectOf(it) }));
 }
-const textOf = it => it.op === 'store' ? it.access : it.access + ' → ' + it.reply;
+function effectOf({ op, value, expect, reply }) {
+    if (op === 'load') return reply;
+    if (op === 'store') return value;
+    if (op === 'add') return `${reply} to ${BigInt.asUintN(64, BigInt(reply) + BigInt(value))}`;
+    return reply === expect ? `${reply} to ${value}` : `${reply} stays`;
+}
+const textOf = it => it.op === 'store' ? it.access : `${it.access}: ${it.effect}`;
 
 // Every message, from the step of its sending to that of its delivery. The channels keep their order.
 const messages = [];
@@ -48,7 +56,7 @@ const waits = new Map();
 function send(row, line, message, from) {
     const channel = channelOf(line, message);
     const sent = { order: messages.length, name: nameOf(message), channel, kind: message.class, line, from,
-        to: whoOf(message.to), sent: row, delivered: null };
+        to: whoOf(message.to), block: message.block, sent: row, delivered: null };
     messages.push(sent);
     for (const all of [channels, waits]) {
         if (!all.has(channel)) all.set(channel, []);
@@ -71,13 +79,65 @@ function readSends(row, { line, victim, plan }) {
     const forwards = plan && plan.forwards;
     for (const to of forwards ? forwards.to : []) send(row, row.line, { ...forwards, class: 'fwd', to }, DIRECTORY);
 }
+
+// Every access that waits, from the step of its issue to that which performs it; of those of one core and line that wait
+// together each has a place of its own.
+const accesses = [];
+const waiting = new Map();
+function readAccesses(row) {
+    const { call, said } = row;
+    if (call.name === 'issue' && said.startsWith('pending')) {
+        const beside = [...waiting.values()].filter(it => it.core === call.core && it.line === call.line).map(it => it.place);
+        const place = Array.from({ length: beside.length + 1 }, (_, it) => it).find(it => !beside.includes(it));
+        const access = { core: call.core, line: call.line, place, issued: row, performed: null };
+        accesses.push(access);
+        waiting.set(keyOf(call.core, said.split(' ')[1]), access);
+    }
+    for (const { core, tag } of row.performed) {
+        const key = keyOf(core, tag);
+        if (waiting.has(key)) waiting.get(key).performed = row;
+        waiting.delete(key);
+    }
+}
+
+// the places in each line's block that accesses name
+const named = new Map();
+function readNamed({ call, text }) {
+    if (call.name !== 'issue') return;
+    if (!named.has(call.line)) named.set(call.line, new Set());
+    named.get(call.line).add(Number(text.split(/\s+/)[4]) % 8);
+}
+
+// How far below the first row each row begins, and at last where they end: a row is as high as what is written in it.
+const ROW = 40;
+const TEXT = 13;
+const tops = [];
+function readTops() {
+    tops.length = 0;
+    let top = 0;
+    for (const row of rows) {
+        tops.push(top);
+        top += ROW + TEXT * Math.max(0, row.performed.length - 1);
+    }
+    tops.push(top);
+}
+
 function readRows() {
     steps.forEach((it, before) => {
         const row = rowOf(it, before);
         row.number = rows.push(row) - 1;
         if (it.plan && it.plan.fate === 'moves') readDelivery(row);
         readSends(row, it);
+        readAccesses(row);
+        readNamed(row);
     });
+    readTops();
+}
+// forgets all that was read
+function forgetRun() {
+    rows.length = messages.length = accesses.length = 0;
+    for (const it of [lines, copies, parts, sets, nexts]) it.all.clear();
+    for (const it of [channels, waits, waiting, named, histories, ...setsOf]) it.clear();
 }
 
 // The states of a line on each lifeline: where each begins.

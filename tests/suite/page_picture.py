@@ -237,10 +237,11 @@ def test_misses_in_flight() -> None:
 @seconds(5)
 def test_accesses_that_wait() -> None:
     """Each begins at its issue and ends where it is performed, beside the others of its line."""
-    script = "cores 1\nissue 0 0 load 0\nissue 0 1 load 1\nissue 0 2 load 8\ndeliver req 0 0\ndeliver data 0 0\n"
-    with page(script + "issue 0 3 load 0\n", "#step=6") as it:
+    script = "cores 1\nissue 0 7 load 0\nissue 0 1 load 1\nissue 0 2 load 8\ndeliver req 0 0\ndeliver data 0 0\n"
+    with page(script + "issue 0 3 load 0\nhand 0 0\nissue 0 7 load 16\ndeliver req 2 0\ndeliver data 2 0\n", "#step=6") as it:
+        it.get("choose([0, 1, 2])")
         found = it.get("all('#diagram .target').map(it => [it.dataset.line, it.dataset.issued, it.dataset.performed])")
-        same("accesses", [["0", "1", "5"], ["0", "2", "5"], ["1", "3", ""]], found)
+        same("accesses", [["0", "1", "5"], ["0", "2", "5"], ["1", "3", ""], ["2", "8", "10"]], found)
         ends = it.numbers("#diagram .target line", "x1", "y1", "y2")
         heights = [y for y, in it.numbers(".row .rule", "y1")]
         want(ends[0][0] != ends[1][0], "two that wait for one line have one place")

@@ -104,8 +104,8 @@ function spread(sizes, width) {
         const seats = Math.max(1, Math.floor((width - 4 - group / 2 - first) / gap));
         return { isScrolled: true, label: sizes.several, first, gap, seats, begins: first + group / 2 + 6 };
     }
-    const side = Math.min(most, least + spare / 4);
-    const gap = Math.min(320, group + between + (spare - 2 * (side - least)) / shape.cores);
+    const gap = Math.min(320, group + between + (spare - 2 * Math.min(most - least, spare / 4)) / shape.cores);
+    const side = (width - label - group - gap * shape.cores) / 2;
     return { isScrolled: false, label, first: label + side + group / 2, gap, seats: shape.cores, begins: label };
 }
 
@@ -186,7 +186,9 @@ function reveal() {
     const bottom = (place.top + tops[now] + ROW) * zoom;
     if (view.scrollTop + view.clientHeight < bottom) view.scrollTop = bottom - view.clientHeight;
     if (view.scrollTop > top) view.scrollTop = top;
-    if (place.isScrolled && now) revealWho(place, rows[now - 1]);
+    let last = now - 1;
+    while (last >= 0 && !rows[last].event) last -= 1;
+    if (place.isScrolled && last >= 0) revealWho(place, rows[last]);
 }
 function setSize({ style }, height, width) {
     if (style.height !== height) style.height = height;
@@ -194,7 +196,6 @@ function setSize({ style }, height, width) {
 }
 // Scrolls by whole cores, until the one that acts is in view, and both ends of its message where there is room for them.
 function revealWho({ orders, gap, seats }, { event, message }) {
-    if (!event) return;
     const all = [event.who, ...message ? [message.from, message.to] : []].filter(it => it !== DIRECTORY);
     const [low, high] = [Math.min, Math.max].map(it => it(...all.map(who => orders.get(who))));
     const [from, to] = high - low < seats ? [low, high] : Array(2).fill(orders.get(all[0]));

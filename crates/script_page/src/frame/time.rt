@@ -85,13 +85,14 @@ function readSends(row, { line, victim, plan }) {
 const accesses = [];
 const waiting = new Map();
 function readAccesses(row) {
-    const { call, said } = row;
+    const { call, said, text } = row;
     if (call.name === 'issue' && said.startsWith('pending')) {
         const beside = [...waiting.values()].filter(it => it.core === call.core && it.line === call.line).map(it => it.place);
         const place = Array.from({ length: beside.length + 1 }, (_, it) => it).find(it => !beside.includes(it));
         const access = { core: call.core, line: call.line, place, issued: row, performed: null };
         accesses.push(access);
-        waiting.set(keyOf(call.core, said.split(' ')[1]), access);
+        const [, , tag] = text.split(/\s+/);
+        waiting.set(keyOf(call.core, Number(tag)), access);
     }
     for (const { core, tag } of row.performed) {
         const key = keyOf(core, tag);

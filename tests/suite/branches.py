@@ -155,12 +155,11 @@ def test_without_memory() -> None:
 GO = READERS + """
 <script>
 const read = [];
-const options = ascending.map(String);
 const choices = () => all('#could .choice');
 // what is drawn, and where, depends on how far the page is scrolled
 const DRAWN = ['bars', 'flying', 'cursor'];
 const textOfAll = shown => JSON.stringify(shown, (key, it) => DRAWN.includes(key) ? undefined : it);
-const here = () => ({ ...readStep(), lines: options.map(line => { follow(line); return readLine(); }) });
+const here = () => ({ ...readStep(), lines: ascending.map(line => { follow(line); return readLine(); }) });
 const told = () => ({ banner: at('branch').hidden ? '' : at('branch').firstChild.textContent, now, said: at('said').textContent,
     focus: document.activeElement.textContent, marked: all('.row.branched').map(it => it.dataset.step) });
 const escape = () => document.body.dispatchEvent(new KeyboardEvent('keydown', { key: 'Escape', bubbles: true }));

@@ -35,13 +35,15 @@ export class Machine {
     }
 
     // Runs the program with these arguments, input and files, by name, all of bytes. Gives its status and what it wrote, in
-    // pieces. `write` may take the pieces as they come: the output's, and those of errors.
-    run(words, input = new Uint8Array(), files = new Map(), write = null) {
+    // pieces. `write` may take the pieces as they come: the output's, and those of errors. A run that is watched writes to
+    // standard error how far it has got.
+    run(words, input = new Uint8Array(), files = new Map(), write = null, isWatched = false) {
         const out = [];
         const err = [];
         this.words = words;
         this.opened = [new Opened(input)];
         this.files = files;
+        this.isWatched = isWatched;
         this.write = write || ((file, piece) => (file === STANDARD_OUTPUT ? out : err).push(piece));
         const status = this.call();
         return { status, out, err };
@@ -65,7 +67,7 @@ export class Machine {
 
     begin() {
         const page = { write: this.pageWrite, read: this.pageRead, open: this.pageOpen, argument: this.pageArgument,
-            exit: status => { throw new Exit(status); } };
+            watched: () => this.isWatched ? 1 : 0, exit: status => { throw new Exit(status); } };
         for (const name of ['write', 'read', 'open', 'argument']) page[name] = page[name].bind(this);
         this.instance = new WebAssembly.Instance(this.module, { page });
         const { memory, __heap_base: heap, __stack_pointer: stack } = this.instance.exports;

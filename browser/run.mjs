@@ -25,4 +25,5 @@ const write = (to, piece) => {
 const machine = new Machine(new WebAssembly.Module(fs.readFileSync(file)));
 const isAsked = words.includes('-') || words[0] === 'try';
 const input = isAsked ? readAll(0) : undefined;
-process.exitCode = machine.run(['lockup', ...words].map(it => Buffer.from(it)), input, files, write).status;
+const isWatched = process.stderr.isTTY === true;
+process.exitCode = machine.run(['lockup', ...words].map(it => Buffer.from(it)), input, files, write, isWatched).status;

@@ -1,10 +1,11 @@
-/* What a program of the kit needs of a C library, for a browser: a heap, files, arguments, and no thread. The page answers six
- * calls; everything else is here. Built for wasm64, whose memory is then lowered to 32 bits: see tools/wasm.py. */
+/* What a program of the kit needs of a C library, for a browser: a heap, files, arguments, and threads, which run one after
+ * another. The page answers six calls; everything else is here. Built for wasm64, whose memory is then lowered to 32 bits: see
+ * tools/wasm.py. */
 
 typedef unsigned char byte;
 typedef unsigned long word;
 
-enum { NO_ENTRY = 2, TRY_AGAIN = 11, NO_SEEK = 29 };
+enum { NO_ENTRY = 2, TRY_AGAIN = 11, NO_SEEK = 29, NO_CALL = 38 };
 
 #define PAGE(name) __attribute__((import_module("page"), import_name(#name)))
 /* Each returns a count, or less than 0 where there is nothing of that kind. */
@@ -13,6 +14,8 @@ PAGE(read) long page_read(int file, byte *to, long count);
 PAGE(open) int page_open(const byte *name, long length);
 PAGE(argument) long page_argument(long which, byte *to, long room);
 PAGE(exit) __attribute__((noreturn)) void page_exit(int status);
+/* Whether somebody wants to know how far a long run has got, which standard error tells then. */
+PAGE(watched) int page_watched(void);
 
 static int error;
 
@@ -146,9 +149,20 @@ void rattle_dealloc(void *at) { free(at); }
 
 /* ---- arguments and files */
 
+enum { STANDARD_ERROR = 2 };
+
 long rattle_arg(word which, byte *to, word room) { return page_argument((long)which, to, (long)room); }
 long rattle_env_at(word which, byte *to, word room) { return -1; }
-long rattle_env(const byte *name, byte *to, word room) { return -1; }
+
+/* The environment: no colors, since what is told isn't read at a terminal. */
+long rattle_env(const byte *name, byte *to, word room) {
+    const char *no_color = "NO_COLOR";
+    word at = 0;
+    for (; name[at] && name[at] == (byte)no_color[at]; at++);
+    if (name[at] || no_color[at] || room < 2) return -1;
+    to[0] = '1';
+    return 1;
+}
 
 int open(const byte *name, int flags, ...) {
     long length = 0;
@@ -161,7 +175,7 @@ int open(const byte *name, int flags, ...) {
 long read(int file, byte *to, long count) { return page_read(file, to, count); }
 long write(int file, const byte *from, long count) { return page_write(file, from, count); }
 int close(int file) { return 0; }
-int isatty(int file) { return 0; }
+int isatty(int file) { return file == STANDARD_ERROR && page_watched(); }
 
 long lseek(int file, long offset, int whence) {
     error = NO_SEEK;
@@ -171,7 +185,7 @@ long lseek(int file, long offset, int whence) {
 void _exit(int status) { page_exit(status); }
 void abort(void) { page_exit(134); }
 
-/* ---- the system: one processor, and no thread */
+/* ---- the system: one processor */
 
 enum { PAGE_SIZE_ASKED = 30 };
 
@@ -184,7 +198,16 @@ int sched_getaffinity(int process, word size, byte *mask) {
 }
 
 int sched_yield(void) { return 0; }
-int pthread_create(void *thread, void *attributes, void *begin, void *argument) { return TRY_AGAIN; }
+
+/* ---- threads: each runs to its end where it is started, and whoever started it goes on then. So no lock is ever held by
+ * another, and what is waited for has come, or never comes. The kit's threads give no result here. */
+
+int pthread_create(long *thread, void *attributes, void *(*begin)(void *), void *argument) {
+    *thread = 2;
+    begin(argument);
+    return 0;
+}
+
 int pthread_attr_init(void *attributes) { return 0; }
 int pthread_attr_setguardsize(void *attributes, word size) { return 0; }
 int pthread_attr_setstacksize(void *attributes, word size) { return 0; }
@@ -192,7 +215,26 @@ int pthread_attr_destroy(void *attributes) { return 0; }
 long pthread_self(void) { return 1; }
 int pthread_detach(long thread) { return 0; }
 int pthread_join(long thread, void *result) { return 0; }
-long syscall(long number, void *at, long operation, long value, void *timeout, ...) { return 0; }
+
+enum { FUTEX = 202, WAIT = 0, WAIT_BITS = 9, COMMANDS = 127 };
+
+/* A wait for a word that another thread would have to change ends the program, which says so. */
+long syscall(long number, int *at, long operation, long value, void *timeout, ...) {
+    static const char never[] = "lockup: waits for a thread, and no other runs\n";
+    long command = operation & COMMANDS;
+    if (number != FUTEX) {
+        error = NO_CALL;
+        return -1;
+    }
+    if (command != WAIT && command != WAIT_BITS) return 0;
+    if (*at != (int)value) {
+        error = TRY_AGAIN;
+        return -1;
+    }
+    page_write(STANDARD_ERROR, (const byte *)never, sizeof never - 1);
+    page_exit(134);
+}
+
 long __sysv_signal(int number, long handler) { return 0; }
 
 /* A proved program asks first whether the processor has what it was compiled for, two words in leaves of 32 bytes. It was

@@ -1,5 +1,6 @@
 // The page's worker: runs the program beside the page, so that nothing freezes it. It is handed the module first, and
-// then calls of the program; the class Machine stands before it.
+// then calls of the program, whose answers it gives, and before an answer how far a long run has got. The class Machine
+// stands before it.
 
 const encoder = new TextEncoder();
 let machine = null;
@@ -20,6 +21,27 @@ const textOf = pieces => new TextDecoder().decode(joined(pieces));
 // Runs the program on a text as its standard input.
 function ran(words, text) {
     return machine.run(['lockup', ...words].map(it => encoder.encode(it)), encoder.encode(text));
+}
+
+// Runs it as `ran` does, and tells how far it has got, which the program writes to standard error: `500 of 2000 rounds`.
+const DONE = /^(\d+ of \d+ \w+)\r/;
+function watched(words, text, tell) {
+    const out = [];
+    let err = '';
+    const write = (file, piece) => {
+        if (file === STANDARD_OUTPUT) {
+            out.push(piece);
+            return;
+        }
+        err += textOf([piece]);
+        for (let done = DONE.exec(err); done; done = DONE.exec(err)) {
+            tell(done[1]);
+            err = err.slice(done[0].length);
+        }
+    };
+    const all = ['lockup', ...words].map(it => encoder.encode(it));
+    const { status } = machine.run(all, encoder.encode(text), new Map(), write, true);
+    return { status, out: textOf(out), err };
 }
 
 // Where some letters stand in bytes behind a place.
@@ -57,8 +79,6 @@ function played(text) {
     return { status, err: textOf(err), fault, same, steps: steps.map(it => it.slice(0, -1)) };
 }
 
-const told = ({ status, out, err }) => ({ status, out: textOf(out), err: textOf(err) });
-
 onmessage = ({ data: { id, module, words, text } }) => {
     if (module) {
         machine = new Machine(module);
@@ -67,7 +87,7 @@ onmessage = ({ data: { id, module, words, text } }) => {
     const began = performance.now();
     let answer;
     try {
-        answer = words ? told(ran(words, text)) : played(text);
+        answer = words ? watched(words, text, done => postMessage({ id, done })) : played(text);
     } catch (stopped) {
         known = new Uint8Array();
         answer = { status: -1, out: '', err: 'lockup: ' + stopped.message + '\n', fault: stopped.message, same: 0, steps: [] };

@@ -15,7 +15,8 @@ import subprocess
 import kit
 
 PARTS = f"{kit.ROOT}/browser"
-CODE = ["parts", "engine", "edits", "link", "script", "run", "moves", "settings", "panels", "main"]
+CODE = ["parts", "engine", "edits", "link", "script", "run", "moves", "keys", "goals", "settings", "litmus", "plot", "programs", "panels",
+        "main"]
 TEXTS = {"scripts": "examples", "litmus": "examples/litmus", "programs": "examples/programs", "exercises": "examples/exercises"}
 # A page that is longer isn't sent by mail, nor opened at once.
 MOST = 1_500_000
@@ -39,19 +40,35 @@ def is_proved(module):
     return os.path.isfile(module) and not os.path.exists(f"{module}.unproved")
 
 
-def write(module, to):
-    """Writes the page around the module as the file `to`. Returns what was said where that fails, or None."""
+def write(module, to, opened=None):
+    """Writes the page around the module as the file `to`, and has it open with the script of a file, if one is given. Returns
+    what was said where that fails, or None."""
     told, said = ask(module, [(["page", "-"], ""), (["--version"], "")])
     if said or not all(told):
         return f"the module doesn't run: {said or 'it prints nothing'}"
     frame, version = told
-    text = page_of(module, live(frame), version.strip() + ("" if is_proved(module) else " (not proved)"))
+    script = None
+    if opened:
+        script, said = script_of(module, opened)
+        if said:
+            return said
+    text = page_of(module, live(frame), version.strip() + ("" if is_proved(module) else " (not proved)"), script)
     if len(text) > MOST:
         return f"the page has {len(text)} bytes, and may have {MOST}"
     with open(f"{to}.new", "w", encoding="utf-8", newline="\n") as it:
         it.write(text)
     os.replace(f"{to}.new", to)
     return None
+
+
+def script_of(module, file):
+    """Returns the script of a file, and what was said where it is none."""
+    try:
+        with open(file, encoding="utf-8") as it:
+            script = it.read()
+    except (OSError, UnicodeDecodeError) as wrong:
+        return None, f"{file} can't be read: {wrong}"
+    return script, ask(module, [(["script", "-"], script)])[1].strip()
 
 
 def ask(module, calls):
@@ -71,11 +88,11 @@ def latin(text):
     return text.encode().decode("latin1")
 
 
-def page_of(module, frame, version):
-    """Returns the page."""
+def page_of(module, frame, version, script):
+    """Returns the page, which opens with the script, if there is one."""
     with open(module, "rb") as it:
         packed = base64.b64encode(gzip.compress(it.read(), 9, mtime=0)).decode()
-    data = {"frame": frame, "worker": without_exports(read("machine.mjs")) + read("worker.js"), "texts": texts(),
+    data = {"frame": frame, "worker": without_exports(read("machine.mjs")) + read("worker.js"), "texts": texts(), "script": script,
             "about": f"{version}, the whole program in this page. It takes nothing from a network, and sends nothing."}
     code = "'use strict';\n" + "\n".join(read(f"page/{name}.js") for name in CODE)
     style = read("page.css")

@@ -109,11 +109,24 @@ function coreAt(step, core) {
         busy: [...waits, ...replies.map(it => it.tag)] };
 }
 
+// whose table's row the step took, and which columns of it
+function takenAt(step) {
+    const met = caseOf(step);
+    if (!met || met.lit === 'would') return null;
+    for (const [heading, ...all] of tables[met.who]) {
+        for (const row of all.filter(it => met.row(it[0]))) {
+            const columns = heading.filter((it, column) => column > 0 && met.fits(it, row[column]));
+            if (columns.length) return { who: met.who, row: row[0], columns };
+        }
+    }
+    return null;
+}
+
 function tell() {
     const step = now && steps[now - 1];
     parent.postMessage({ told: { number: taken, now, count: steps.length, line: step ? step.at : 0, cut: cutAt(now), shape,
         followed: followed(), moves: movesAt(now), cores: Array.from({ length: shape.cores }, (_, core) => coreAt(now, core)),
-        answer: step ? step.answer : '' } }, '*');
+        taken: takenAt(now), isExclusive: chosen.exclusive === 'on', answer: step ? step.answer : '' } }, '*');
 }
 const showAlone = show;
 show = number => {
@@ -148,16 +161,22 @@ at('could').addEventListener('click', event => {
     if (row) parent.postMessage({ asked: { deliver: row.textContent.split('   ')[0] } }, '*');
 });
 document.addEventListener('keydown', event => {
-    const { key, ctrlKey, metaKey, shiftKey } = event;
+    const { key, ctrlKey, metaKey, shiftKey, target } = event;
     if ((ctrlKey || metaKey) && ['z', 'Z', 'y'].includes(key)) {
         event.preventDefault();
         parent.postMessage({ asked: { history: key === 'y' || shiftKey ? 'redo' : 'undo' } }, '*');
     }
+    // all other keys are the page's around it, but where something is written, or read that they would scroll
+    const isRead = at('focus').contains(target) && key.startsWith('Arrow');
+    if (event.defaultPrevented || event.altKey || ctrlKey || metaKey || isRead) return;
+    if (['INPUT', 'SELECT', 'TEXTAREA'].includes(target.tagName)) return;
+    if (/^(.|Arrow\w+)$/.test(key)) parent.postMessage({ asked: { key } }, '*');
 });
 
 addEventListener('message', ({ source, data }) => {
     if (source !== parent) return;
     if (data.take) take(data.take);
     if (data.go) show(now + data.go);
+    if (data.goEvent) show(eventFrom(now, data.goEvent));
 });
 parent.postMessage({ ready: true }, '*');

@@ -23,7 +23,7 @@ class Edits {
         return this.lines.join('\n');
     }
     make({ at, took, gave }) {
-        this.lines.splice(at, took.length, ...gave);
+        this.lines = [...this.lines.slice(0, at), ...gave, ...this.lines.slice(at + took.length)];
     }
     // Takes this text in place of the one that is there.
     take(text) {

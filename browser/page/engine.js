@@ -13,32 +13,46 @@ const failed = said => ({ status: -1, out: '', err: `lockup: ${said}\n`, fault: 
 class Engine {
     // `place` is where the worker's code is found: a blob of the page, which stays, since a worker may read it late.
     constructor(module, place) {
-        this.waiting = new Map();
-        this.count = 0;
-        this.worker = new Worker(place);
-        this.worker.onmessage = ({ data }) => this.tell(data);
-        this.worker.onerror = ({ message }) => {
-            for (const id of [...this.waiting.keys()]) this.tell({ id, ...failed(message) });
-        };
-        this.worker.postMessage({ module });
+        Object.assign(this, { module, place, waiting: new Map(), count: 0 });
+        this.begin();
     }
-    tell(answer) {
-        const take = this.waiting.get(answer.id);
-        this.waiting.delete(answer.id);
-        take(answer);
+    begin() {
+        this.worker = new Worker(this.place);
+        this.worker.onmessage = ({ data }) => this.tell(data);
+        this.worker.onerror = ({ message }) => this.fail(message);
+        this.worker.postMessage({ module: this.module });
+    }
+    fail(said) {
+        for (const id of [...this.waiting.keys()]) this.tell({ id, ...failed(said) });
+    }
+    tell(told) {
+        const { answer, watch } = this.waiting.get(told.id);
+        if (told.done) {
+            watch(told.done);
+            return;
+        }
+        this.waiting.delete(told.id);
+        answer(told);
     }
 
-    // Runs the program with these words and this text as its input, or plays the text where there are no words.
-    ask(text, words = null) {
+    // Runs the program with these words and this text as its input, or plays the text where there are no words. `watch` is
+    // told how far a long run has got.
+    ask(text, words = null, watch = () => {}) {
         const id = this.count++;
         return new Promise(answer => {
-            this.waiting.set(id, answer);
+            this.waiting.set(id, { answer, watch });
             this.worker.postMessage({ id, text, words });
         });
     }
 
     stop() {
         this.worker.terminate();
+    }
+    // Stops what is at work, and begins anew.
+    restart() {
+        this.stop();
+        this.begin();
+        this.fail('stopped');
     }
 }
 
@@ -55,7 +69,7 @@ class LongWork {
         this.engine = engine;
         this.button.hidden = false;
         this.says.textContent = 'at work ..';
-        const answer = await engine.ask(text, words);
+        const answer = await engine.ask(text, words, done => { this.says.textContent = done; });
         if (this.engine === engine) this.end('');
         return answer;
     }

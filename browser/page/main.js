@@ -2,9 +2,9 @@
 
 const DATA = JSON.parse(at('data').textContent);
 const EMPTY = '# An empty machine: issue an access, and deliver its messages one by one.\n';
-const HINT = 'No cache has anything yet: let a core load or store. Its request is then in flight, to be delivered below.';
+const HINT = 'No cache has anything yet.';
 const PLAY = 'play';
-const edits = new Edits(EMPTY);
+const edits = new Edits(DATA.script || EMPTY);
 // the step that the frame shows last, and the number of the run that it was handed last
 let shown = null;
 let number = 0;
@@ -29,9 +29,10 @@ async function play(to) {
     waits = { to };
     if (isAtWork) return;
     isAtWork = true;
-    const slow = setTimeout(() => say('at work ..'), 700);
+    const slow = setTimeout(() => { at('stop').hidden = false; }, 700);
     while (waits) await playNext();
     clearTimeout(slow);
+    at('stop').hidden = true;
     isAtWork = false;
 }
 async function playNext() {
@@ -80,6 +81,8 @@ function told(it) {
     if (it.number !== number || waits) return;
     script.mark(it.line);
     moves.show(it);
+    goals.take(it, edits.text.startsWith(EMPTY));
+    tables.take(it.taken, it.isExclusive);
     at('answer').textContent = it.now ? it.answer.trim().slice(0, 300) : it.count ? '' : HINT;
 }
 
@@ -110,24 +113,18 @@ function fillMenu() {
     };
 }
 
-function save() {
-    const link = made('a');
-    link.href = URL.createObjectURL(new Blob([edits.text], { type: 'text/plain' }));
-    link.download = 'script.txt';
-    link.click();
-    setTimeout(() => URL.revokeObjectURL(link.href), 1000);
-}
 // The script stays over a reload, where the browser keeps something for a page.
+const KEPT = 'script of ' + location.pathname;
 function keep(text) {
     try {
-        sessionStorage.setItem('script', text);
+        sessionStorage.setItem(KEPT, text);
     } catch {
         // it keeps nothing, or not so much
     }
 }
 function kept() {
     try {
-        return sessionStorage.getItem('script');
+        return sessionStorage.getItem(KEPT);
     } catch {
         return null;
     }
@@ -152,17 +149,17 @@ async function openLink() {
     }
 }
 
+const FIELDS = ['INPUT', 'SELECT', 'TEXTAREA'];
 function press(event) {
     const { key, ctrlKey, metaKey, shiftKey, altKey, target } = event;
-    const writes = ['INPUT', 'SELECT', 'TEXTAREA'].includes(target.tagName);
+    const writes = FIELDS.includes(target.tagName) && target.type !== 'checkbox';
     if ((ctrlKey || metaKey) && ['z', 'Z', 'y'].includes(key) && (!writes || target.id === 'script')) {
         event.preventDefault();
         goBack(key === 'y' || shiftKey ? 'redo' : 'undo');
     }
-    const by = { ArrowLeft: -1, ArrowRight: 1, PageUp: -1, PageDown: 1 }[key];
-    if (!by || writes || ctrlKey || metaKey || altKey) return;
-    event.preventDefault();
-    run.go(by);
+    if (ctrlKey || metaKey || altKey || at('keys-shown').open) return;
+    if (writes && key === 'Escape') target.blur();
+    if (!writes && shown && keys.press(key)) event.preventDefault();
 }
 
 // ---- how it begins
@@ -173,6 +170,7 @@ const beginEngine = () => new Engine(module, workerPlace);
 const run = new Run(at('run'), told, it => {
     if (it.deliver) act(it.deliver);
     if (it.history) goBack(it.history);
+    if (it.key) keys.press(it.key);
     if (it.core !== undefined) {
         tabsOf(PLAY);
         moves.choose(it.core);
@@ -188,6 +186,8 @@ const settings = new Settings((name, value) => {
     edits.take(withSetting(edits.lines, name, value).join('\n'));
     play();
 });
+const goals = new Goals();
+const keys = new Keys(moves, run, goBack);
 let litmus, programs, exercises, tables;
 
 async function begin() {
@@ -199,9 +199,10 @@ async function begin() {
     tables = new Tables(engine);
     fillMenu();
     for (const it of document.querySelectorAll('[data-to]')) it.onclick = () => tabsOf(it.dataset.to);
+    at('stop').onclick = () => engine.restart();
     at('undo').onclick = () => goBack('undo');
     at('redo').onclick = () => goBack('redo');
-    at('save').onclick = save;
+    at('save').onclick = () => saveAs('script.txt', edits.text, 'text/plain');
     at('load').onclick = () => at('file').click();
     at('file').onchange = async () => {
         const [file] = at('file').files;
@@ -218,7 +219,7 @@ async function begin() {
     addEventListener('hashchange', openLink);
     document.addEventListener('keydown', press);
     litmus.show(DATA.texts.litmus.sb || '');
-    programs.show(DATA.texts.programs.ping_pong || '');
+    programs.show(DATA.texts.programs.histogram_shared || '');
     exercises.show(DATA.texts.exercises.first_miss || '');
     at('about').textContent = DATA.about;
     document.body.classList.remove('empty');

@@ -18,7 +18,9 @@ class Moves {
     constructor(act) {
         this.act = act;
         this.told = null;
-        at('core').onchange = () => this.showIssue();
+        // whose accesses the keys issue
+        this.core = 0;
+        at('core').onchange = () => this.mark(Number(at('core').value));
         for (const { id, command } of [{ id: 'next', command: 'pump 1' }, { id: 'all', command: 'pump 1000' }]) {
             at(id).onclick = () => act(command);
         }
@@ -47,10 +49,16 @@ class Moves {
         const number = id => at(id).value.trim() || '0';
         this.act(['issue', core, tag, name, number('word'), ...ACCESSES[name].map(number)].join(' '));
     }
+    // Has the keys issue a core's accesses.
+    mark(core) {
+        const count = this.told.shape.cores;
+        this.core = (core + count) % count;
+        at('core').value = this.core;
+        this.showIssue();
+    }
     // Has the accesses of a core at hand.
     choose(core) {
-        at('core').value = core;
-        this.showIssue();
+        this.mark(core);
         const first = at('issue').querySelector(`[data-issue="${core} load"]`);
         first.scrollIntoView({ block: 'nearest' });
         first.focus();
@@ -63,25 +71,36 @@ class Moves {
         if (at('core').options.length !== count) {
             at('core').replaceChildren(...Array.from({ length: count }, (_, it) => made('option', '', String(it))));
         }
-        const cores = many ? [Number(at('core').value)] : Array.from({ length: count }, (_, it) => it);
+        if (this.core >= count) this.core = 0;
+        const cores = many ? [this.core] : Array.from({ length: count }, (_, it) => it);
         const rows = at('issue');
         const key = cores.join();
-        if (rows.dataset.cores === key) return;
+        if (rows.dataset.cores !== key) rows.replaceChildren(...cores.map(core => this.rowOf(core)));
         rows.dataset.cores = key;
-        rows.replaceChildren(...cores.map(core => made('div', 'row', made('span', 'who', 'core ' + core),
-            ...Object.keys(ACCESSES).map(name => {
-                const it = button('', name, () => this.issue(core, name));
-                it.dataset.issue = core + ' ' + name;
-                return it;
-            }))));
+        cores.forEach((core, place) => rows.children[place].classList.toggle('marked', core === this.core));
+    }
+    rowOf(core) {
+        const row = made('div', 'row', made('span', 'who', 'core ' + core), ...Object.keys(ACCESSES).map(name => {
+            const it = button('', name, () => this.issue(core, name));
+            it.dataset.issue = core + ' ' + name;
+            return it;
+        }));
+        row.addEventListener('focusin', () => this.mark(core));
+        return row;
     }
 
+    // Delivers the message that stands at this place of the list, blocked ones too.
+    deliver(place) {
+        const it = this.told.moves[place];
+        if (it) this.act(it.command);
+    }
     showDeliveries() {
         const { moves } = this.told;
-        const rows = moves.map(it => {
+        const rows = moves.map((it, place) => {
             const way = made('span', 'way', `${it.from} → ${it.to}, line ${it.line}`);
             const why = it.moves ? [] : [made('span', 'why', it.why)];
-            const row = button('move ' + it.kind + (it.moves ? '' : ' blocked'), [made('b', '', it.name), ' ', way, ...why],
+            const key = place < 9 ? [made('kbd', '', String(place + 1))] : [];
+            const row = button('move ' + it.kind + (it.moves ? '' : ' blocked'), [...key, made('b', '', it.name), ' ', way, ...why],
                 () => this.act(it.command));
             row.title = it.command;
             row.dataset.command = it.command;

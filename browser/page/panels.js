@@ -1,87 +1,4 @@
-// ---- litmus tests, programs, exercises and tables: panels beside the run
-
-// Walks of a litmus test: a table of its outcomes, each with a run that leads to it.
-class Litmus {
-    constructor(begin, open) {
-        this.open = open;
-        this.work = new LongWork(begin, at('walk-stop'), at('walk-says'));
-        at('walk').onclick = () => this.walk();
-    }
-    show(text) {
-        at('litmus-text').value = text;
-        at('outcomes').replaceChildren();
-    }
-    async walk() {
-        const text = at('litmus-text').value;
-        const words = ['walk', '-', '--json', '--rounds', at('rounds').value || '1000', '--seed', at('seed').value || '1'];
-        at('outcomes').replaceChildren();
-        const { status, out, err } = await this.work.ask(text, words);
-        if (status > 1 || !out) {
-            at('outcomes').replaceChildren(made('pre', 'bad', err || out));
-            return;
-        }
-        // numbers of 64 bits stay as they are written
-        const { names, counters, outcomes, forbidden } = JSON.parse(out.replace(/([:,[])(\d{16,})/g, '$1"$2"'));
-        const heads = [...names, ...counters.map(it => 'word ' + it), 'rounds', ''];
-        const isForbidden = forbiddenBy(text, names);
-        const rows = outcomes.map(it => {
-            const seed = String(it.seed);
-            const see = button('small', 'see one', () => this.see(text, seed));
-            see.dataset.seed = seed;
-            const cells = it.values.map(value => made('td', '', String(value)));
-            const kind = isForbidden(it.values) ? 'bad' : '';
-            return made('tr', kind, ...cells, made('td', '', String(it.rounds)), made('td', '', see));
-        });
-        at('outcomes').replaceChildren(made('table', '', made('tr', '', ...heads.map(it => made('th', '', it))), ...rows),
-            made('p', forbidden ? 'bad' : '', `rounds with a forbidden outcome: ${forbidden}`));
-        at('outcomes').scrollIntoView({ block: 'nearest' });
-    }
-    // Opens the run of a seed as a script.
-    async see(text, seed) {
-        const { out, err } = await this.work.ask(text, ['walk', '-', '--script', '--seed', seed]);
-        if (out) this.open(`# ${titleOf(text)}, seed ${seed}\n` + out);
-        else say(err);
-    }
-}
-
-// Gives whether values are of an outcome that a test's lines `forbid NAME=VALUE ..` forbid.
-function forbiddenBy(text, names) {
-    const rules = text.split('\n').map(it => it.trim().split(/\s+/)).filter(it => it[0] === 'forbid')
-        .map(it => it.slice(1).map(pair => pair.split('=')));
-    return values => rules.some(rule => rule.every(([name, value]) => String(values[names.indexOf(name)]) === value));
-}
-
-// What a text is called: how its first comment begins.
-function titleOf(text) {
-    const comment = text.split('\n').find(it => it.startsWith('#')) || '# a test';
-    return comment.slice(1).split(/[:.]/)[0].trim();
-}
-
-// Programs of the cores: their report, and a run of them as a script.
-class Programs {
-    constructor(begin, open) {
-        this.work = new LongWork(begin, at('run-stop'), at('run-says'));
-        at('run-report').onclick = async () => {
-            const { out, err } = await this.ask([]);
-            at('report').textContent = out + err;
-            at('report').scrollIntoView({ block: 'nearest' });
-        };
-        at('run-see').onclick = async () => {
-            const { out, err } = await this.ask(['--script']);
-            if (out) open(out);
-            else at('report').textContent = err;
-        };
-    }
-    ask(more) {
-        const outstanding = at('outstanding').value ? ['--outstanding', at('outstanding').value] : [];
-        const words = ['run', '-', '--seed', at('run-seed').value || '1', ...outstanding, ...more];
-        return this.work.ask(at('program-text').value, words);
-    }
-    show(text) {
-        at('program-text').value = text;
-        at('report').textContent = '';
-    }
-}
+// ---- exercises and tables: panels beside the run
 
 // Exercises: a script with the answers that are wanted, and the first that differs.
 class Exercises {
@@ -102,17 +19,55 @@ class Exercises {
     }
 }
 
-// The tables of the protocol, as the code has them.
+// The tables of a text whose lines are `| cell | cell |`, as rows of cells.
+function cellsOf(text) {
+    return text.trim().split('\n\n').filter(it => it.startsWith('|')).map(part => part.split('\n')
+        .filter(it => it.startsWith('|') && !it.startsWith('|---')).map(row => row.slice(1, -1).split('|').map(it => it.trim())));
+}
+
+// The tables of the protocol, as the code has them. The row that the step took is marked, and its cell.
+const TAKEN = { core: 'cache', dir: 'directory' };
 class Tables {
     constructor(engine) {
         this.engine = engine;
+        this.taken = null;
+        this.texts = {};
         at('with-exclusive').onchange = () => this.show();
     }
+    // `taken` says of the step that is shown which row and columns of whose table it took.
+    take(taken, isExclusive) {
+        this.taken = taken;
+        if (isExclusive !== this.isExclusive) at('with-exclusive').checked = isExclusive;
+        this.isExclusive = isExclusive;
+        if (document.body.dataset.tab === 'tables') this.show();
+    }
     async show() {
-        const more = at('with-exclusive').checked ? ['--exclusive'] : [];
-        const ask = name => this.engine.ask('', ['table', name, ...more]);
-        const [cache, directory] = [await ask('cache'), await ask('directory')];
-        at('both').replaceChildren(made('h2', '', 'What a cache does'), ...tablesOf(cache.out),
-            made('h2', '', 'What the directory does'), ...tablesOf(directory.out));
+        const { cache, directory } = await this.ask(at('with-exclusive').checked);
+        at('both').replaceChildren(made('h2', '', 'What a cache does'), ...this.tablesOf('cache', cache),
+            made('h2', '', 'What the directory does'), ...this.tablesOf('directory', directory));
+        const cell = at('both').querySelector('.taken-cell');
+        at('taken').textContent = cell ? 'The row that the step took is marked, and its cell.'
+            : 'The row that a step takes is marked here. This step took none.';
+        if (cell) cell.scrollIntoView({ block: 'center', inline: 'center' });
+    }
+    async ask(withExclusive) {
+        if (!this.texts[withExclusive]) {
+            const more = withExclusive ? ['--exclusive'] : [];
+            const ask = async name => (await this.engine.ask('', ['table', name, ...more])).out;
+            this.texts[withExclusive] = { cache: await ask('cache'), directory: await ask('directory') };
+        }
+        return this.texts[withExclusive];
+    }
+    tablesOf(name, text) {
+        const plain = it => at('with-exclusive').checked ? it : it.replace(/ \(exclusive (on|off)\)/, '');
+        const met = this.taken && TAKEN[this.taken.who] === name ? this.taken : { row: '', columns: [] };
+        const columns = met.columns.map(plain);
+        return cellsOf(text).map(([heading, ...rows]) => {
+            const isTaken = row => row[0] === plain(met.row) && heading.some(it => columns.includes(it));
+            const cellOf = (row, cell, column) => made(column === 0 ? 'th' : 'td',
+                isTaken(row) && columns.includes(heading[column]) ? 'taken-cell' : '', cell);
+            return made('table', '', made('tr', '', ...heading.map(it => made('th', '', it))), ...rows.map(row =>
+                made('tr', isTaken(row) ? 'taken' : '', ...row.map((cell, column) => cellOf(row, cell, column)))));
+        });
     }
 }

@@ -8,6 +8,12 @@ function made(name, kind, ...inside) {
     it.append(...inside);
     return it;
 }
+function drawn(name, attributes, ...inside) {
+    const it = document.createElementNS('http://www.w3.org/2000/svg', name);
+    for (const [key, value] of Object.entries(attributes)) it.setAttribute(key, value);
+    it.append(...inside);
+    return it;
+}
 function button(kind, inside, press) {
     const it = made('button', kind, ...[inside].flat());
     it.type = 'button';
@@ -28,11 +34,18 @@ function say(text) {
     saying = setTimeout(() => { at('said').textContent = ''; }, 6000);
 }
 
-// The table of a text whose lines are `| cell | cell |`.
-function tablesOf(text) {
-    return text.trim().split('\n\n').filter(it => it.startsWith('|')).map(part => {
-        const rows = part.split('\n').filter(it => it.startsWith('|') && !it.startsWith('|---'));
-        return made('table', '', ...rows.map((row, order) => made('tr', '', ...row.slice(1, -1).split('|')
-            .map((cell, column) => made(order === 0 || column === 0 ? 'th' : 'td', '', cell.trim())))));
-    });
+// A table of rows of cells, the first of which is its heading.
+function tableOf(heading, rows, kindOf = () => '') {
+    const cells = (name, row) => row.map(it => made(name, '', it instanceof Node ? it : String(it)));
+    return made('table', '', made('tr', '', ...cells('th', heading)),
+        ...rows.map((row, order) => made('tr', kindOf(order), ...cells('td', row))));
+}
+
+// Saves a text as a file.
+function saveAs(name, text, type) {
+    const link = made('a');
+    link.href = URL.createObjectURL(new Blob([text], { type }));
+    link.download = name;
+    link.click();
+    setTimeout(() => URL.revokeObjectURL(link.href), 1000);
 }

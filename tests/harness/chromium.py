@@ -15,7 +15,10 @@ from .processes import needs
 
 FLAGS = "--headless --no-sandbox --disable-gpu --disable-dev-shm-usage --no-first-run --remote-debugging-pipe".split()
 LONGEST = 60.0
-KEYS = {"PageUp": 33, "PageDown": 34, "End": 35, "Home": 36, "ArrowLeft": 37, "ArrowRight": 39}
+KEYS = {"Enter": 13, "Escape": 27, "PageUp": 33, "PageDown": 34, "End": 35, "Home": 36, "ArrowLeft": 37, "ArrowUp": 38,
+        "ArrowRight": 39, "ArrowDown": 40}
+# what a key writes, which a button that has the focus waits for
+WRITES = {"Enter": "\r"}
 
 
 class Chromium:
@@ -155,9 +158,10 @@ class Chromium:
 
     def key(self, name: str, modifiers: int = 0) -> None:
         """Presses a key: modifiers are 2 for Ctrl and 8 for Shift."""
-        code = KEYS.get(name, ord(name.upper()[0]))
-        for kind in ("rawKeyDown", "keyUp"):
-            self.call("Input.dispatchKeyEvent", type=kind, key=name, windowsVirtualKeyCode=code, modifiers=modifiers)
+        code, written = KEYS.get(name, ord(name.upper()[0])), WRITES.get(name, "")
+        for kind in ("keyDown" if written else "rawKeyDown", "keyUp"):
+            text = {"text": written} if kind == "keyDown" else {}
+            self.call("Input.dispatchKeyEvent", type=kind, key=name, windowsVirtualKeyCode=code, modifiers=modifiers, **text)
 
     def type(self, text: str) -> None:
         self.call("Input.insertText", text=text)

@@ -1,14 +1,18 @@
 """Runs the program as a browser has it, through node, and compares it with the program under test: output, standard error and
 status, byte by byte.
 
-- each case of tests/cases that needs no thread, no folder and no output that can't be written;
-- each example: scripts in every form, litmus tests walked, programs run, exercises compared;
+- each case of tests/cases that needs no folder and no output that can't be written;
+- each example: scripts in every form, litmus tests walked, programs run, rows of these over settings and seeds, exercises
+  compared;
+- each litmus test over threads, which run one after another: outcomes that may come, in all rounds, the same each time;
+- how far a run that is watched says it has got;
 - scripts that are drawn, of 100,000 calls;
 - all of these in one process, one call after another: none finds anything of the one before it;
 - what a command line in node does; what tools/browser says of packages that aren't there; a small program, proved as ./build
   proves this one, of the module that is kept of it; and that a run which asks for more memory than there is ends with `no memory`.
 """
 import os
+import re
 import shutil
 import sys
 import tempfile
@@ -22,15 +26,12 @@ from harness.processes import program, read
 
 SCRIPTS = [["script"], ["script", "--explain"], ["script", "--json"], ["script", "--beside"], ["page"],
            ["page", "--branches", "2"], ["page", "--guess"], ["chart"], ["chart", "--svg"], ["script", "--vcd"], ["check"]]
-# these start threads, and a browser has none
-ROWS = ("--set", "--seeds", "--csv")
+ROWS = ["--set", "ways=1,2", "--set", "policy=lru,random 7", "--seeds", "1..3"]
 
 
 def needs_more(case: Case) -> bool:
-    """Whether a case needs what a browser hasn't: threads, a folder, or an output that refuses."""
-    words = case.words
-    return (case.to is not None or "/" in words or words[:1] == ["litmus"] and not {"--help", "-h"} & set(words)
-            or words[:1] == ["run"] and any(it.startswith(ROWS) for it in words))
+    """Whether a case needs what a browser hasn't: a folder, or an output that refuses."""
+    return case.to is not None or "/" in case.words
 
 
 def compare(calls: list[Call], wanted: list[Ran]) -> None:
@@ -54,12 +55,57 @@ def test_cases() -> None:
 def test_examples() -> None:
     calls = []
     for kind, all_words in [("", SCRIPTS), ("litmus/", [["walk", "--rounds", "200"], ["walk", "--script", "--seed", "7"]]),
-                            ("programs/", [["run"], ["run", "--json"], ["run", "--script"]]), ("exercises/", [["test"]])]:
+                            ("programs/", [["run"], ["run", "--json"], ["run", "--script"], ["run", *ROWS, "--csv"],
+                                           ["run", *ROWS, "--json"]]), ("exercises/", [["test"]])]:
         files = sorted((ROOT / f"examples/{kind}").glob("*.txt"))
         calls += [Call([*words, str(file)]) for file in files for words in all_words]
     calls += [Call(["table", it]) for it in ("cache", "directory")]
     want(len(calls) > 400, f"there are {len(calls)} calls")
     compare(calls, [lockup(*it.words) for it in calls])
+
+
+@seconds(30)
+def test_threads() -> None:
+    """A thread for each core, and movers, one after another: nothing hangs, and what comes is what may come."""
+    files = sorted((ROOT / "examples/litmus").glob("*.txt"))
+    calls = [Call(["litmus", "--seed", seed, str(file)]) for file in files for seed in ("1", "1", "2")]
+    threads = "".join(f"thread {core}\nadd 0 1 r{core}\n" for core in range(4))
+    movers = f"lockup-litmus 1\ncores 4\nrounds 50\nmovers 4\n{threads}"
+    found = asked([*calls, Call(["litmus", "-"], movers)])
+    for file, one, again, other in zip(files, found[::3], found[1::3], found[2::3]):
+        same(f"{file.stem}: the same seed", one, again)
+        rounds = int(re.search(r"^rounds (\d+)", read(file), re.M)[1])
+        for ran in (one, other):
+            *outcomes, forbidden = ran.out.splitlines()
+            same(file.stem, (0, "", "forbidden 0"), (ran.status, ran.err, forbidden))
+            same(f"{file.stem}: rounds", rounds, sum(int(it.split()[0]) for it in outcomes))
+            never = {it.split(None, 1)[1] for it in outcomes} - set(read(file.with_suffix(".outcomes")).splitlines())
+            same(f"{file.stem}: outcomes that can't be", set(), never)
+    # four adds to one word: each finds another count
+    for outcome in found[-1].out.splitlines()[:-1]:
+        same("replies of the adds", ["0", "1", "2", "3"], sorted(it.split("=")[1] for it in outcome.split()[1:]))
+    same("with movers", (0, ""), (found[-1].status, found[-1].err))
+
+
+# Runs a walk that is watched, and prints what standard error is told.
+WATCHED = """
+import fs from 'node:fs';
+import { Machine } from '%s/browser/machine.mjs';
+const machine = new Machine(new WebAssembly.Module(fs.readFileSync(process.argv[2])));
+const told = [];
+const words = ['lockup', 'walk', '--rounds', '1200', '-'].map(it => Buffer.from(it));
+const write = (file, piece) => { if (file === 2) told.push(Buffer.from(piece)); };
+machine.run(words, fs.readFileSync(process.argv[3]), new Map(), write, true);
+fs.writeSync(1, Buffer.concat(told));
+"""
+
+
+@seconds(5)
+def test_progress() -> None:
+    with tempfile.TemporaryDirectory() as room:
+        write(f"{room}/watched.mjs", WATCHED % ROOT)
+        ran = run(["node", f"{room}/watched.mjs", folder() / "lockup.wasm", ROOT / "examples/litmus/sb.txt"])
+    same("what is told", (0, "500 of 1200 rounds\r1000 of 1200 rounds\r", ""), tuple(ran))
 
 
 def drawn(seed: int, count: int) -> str:

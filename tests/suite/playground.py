@@ -3,12 +3,17 @@ the program under test says of the same script.
 
 - it answers within two seconds of being opened, and stays under 50 ms of work a click at 2,000 commands;
 - from an empty machine clicks alone lead to two upgrades at once, with the forward that has to wait and why;
-- each thing that can be done: accesses, deliveries in the list and in the picture, evictions, replies, pumps, undo and redo, a step
-  back and another way from there, settings, the menu, walks, programs, exercises, tables, links, files;
+- each thing that can be done: accesses, deliveries in the list and in the picture, evictions, replies, pumps, undo and redo, a
+  step back and another way from there, by the mouse and by keys, on the page and in its picture; settings, the menu, walks and
+  threads of litmus tests, programs with their rows, a plot of these and the file that is saved, exercises, tables with the row
+  that was taken, links, files, and a page that opens with a script;
+- what it says one may try leads to an upgrade race;
+- long work says how far it has got, is stopped by a button, and the page goes on meanwhile;
 - an invalid line has its error beside it, with the hint that the program gives;
-- nothing of a script is read as HTML, be it in a link, in the text or in the picture; a link that can't be read, or unfolds to too
-  much, is refused; the page's policy lets no network and no code of others in;
-- its memory doesn't grow over 200 clicks;
+- nothing of a script is read as HTML, be it in a link, in the text or in the picture; a link that can't be read, or unfolds to
+  too much, is refused; the page's policy lets no network and no code of others in;
+- its memory doesn't grow over 1,000 clicks;
+- its code has nothing that browsers of 2023 lack;
 - on a telephone, a tablet and a desk nothing is cut or stands behind something else.
 """
 import base64
@@ -107,9 +112,9 @@ def test_a_script_of_2000_commands() -> None:
         want(min(taken) < 50, f"a click costs {taken} ms in the worker")
 
 
-@seconds(15)
+@seconds(40)
 def test_memory() -> None:
-    """200 clicks leave no more than 2 MB behind in the page, and nothing in the program's memory."""
+    """1,000 clicks leave no more than 2 MB behind in the page, and nothing in the program's memory."""
     with page() as it:
         def click(count: int) -> tuple[float, int]:
             for _ in range(count // 4):
@@ -118,7 +123,7 @@ def test_memory() -> None:
                 it.do("#undo")
                 it.do("#undo")
             return it.collect(), int(it.get("document.body.dataset.memory"))
-        before, after = click(40), click(200)
+        before, after = click(40), click(1000)
         want(after[0] - before[0] < 2 << 20, f"the page has {before[0]} bytes, and then {after[0]}")
         same("the program's memory", before[1], after[1])
 
@@ -146,8 +151,8 @@ def test_two_upgrades_at_once() -> None:
         same("its answer", "blocked", it.get("document.getElementById('answer').textContent").split("   ")[0])
         it.do_all("deliver fwd 0 1", "deliver ack 0 0 1", "deliver data 0 0", "deliver fwd 0 0", "deliver data 0 1")
         wanted = ["issue 0 0 load 0", "pump 1000", "issue 1 0 load 0", "pump 1000", "issue 0 1 store 0 1",
-                  "issue 1 1 store 0 1", "deliver req 0 0", "deliver req 0 1", "deliver fwd 0 0", "deliver fwd 0 1", "deliver ack 0 0 1",
-                  "deliver data 0 0", "deliver fwd 0 0", "deliver data 0 1"]
+                  "issue 1 1 store 0 1", "deliver req 0 0", "deliver req 0 1", "deliver fwd 0 0", "deliver fwd 0 1",
+                  "deliver ack 0 0 1", "deliver data 0 0", "deliver fwd 0 0", "deliver data 0 1"]
         same("the script", wanted, it.commands())
         shown = it.get_in_frame("document.querySelector('#diagram').textContent")
         want("deliver req 0 0" in shown, "the picture doesn't show it")
@@ -224,6 +229,92 @@ def test_undo_and_another_way() -> None:
         it.settle()
         it.do('[data-issue="1 load"]')
         same("from within a pump", ["issue 0 0 load 0", "deliver req 0 0", "issue 1 0 load 0"], it.commands())
+
+
+@seconds(8)
+def test_by_keys() -> None:
+    """What the mouse does the keys do: accesses, deliveries, evictions, replies, pumps, undo and redo, another way."""
+    with page() as it:
+        def press(*keys: str) -> list[str]:
+            for key in keys:
+                it.key(key, SHIFT if key.isupper() else 0)
+                it.settle()
+            return it.commands()
+        same("accesses", ["issue 0 0 load 0", "issue 0 1 store 0 1"], press("l", "s"))
+        same("of the other core", ["issue 1 0 add 0 1", "issue 1 1 cas 0 0 1"], press("ArrowDown", "a", "c")[2:])
+        it.key("w")
+        it.type("8")
+        it.key("Escape")
+        same("to another word", "issue 0 2 load 8", press("ArrowDown", "l")[4])
+        same("undo and redo", 4, len(press("u")))
+        same("undo and redo", 5, len(press("r")))
+        first = it.get("document.querySelector('#deliver .move').dataset.command")
+        same("a delivery", [first], press("1")[5:])
+        same("pumps", ["pump 1", "pump 1000"], press("n", "N")[6:])
+        it.key("h")
+        same("a reply", "hand 0 0", press("Enter")[8])
+        it.key("e")
+        evicted = it.get("document.activeElement.dataset.command")
+        same("a copy", [evicted.split()[0], evicted], ["evict", press("Enter")[9]])
+        it.get("document.activeElement.blur()")
+        it.key("Home")
+        it.wait(f"{STEP}.startsWith('0 of')")
+        it.settle()
+        same("another way", ["issue 0 0 store 8 1"], press("s"))
+        # a blocked one says why; and in the picture the same keys do the same
+        it.open_text("issue 0 0 load 0\ndeliver req 0 0\nissue 1 0 store 0 1\ndeliver req 0 1\n")
+        it.click_in_frame("#time")
+        blocked = it.get("[...document.querySelectorAll('.move')].findIndex(it => it.classList.contains('blocked')) + 1")
+        it.key(str(blocked))
+        it.wait(f"{STEP} === '5 of 5'")
+        same("its answer", "blocked", it.get("at('answer').textContent").split("   ")[0])
+        it.key("u")
+        it.wait(f"{STEP} === '4 of 4'")
+        it.key("PageUp")
+        it.wait(f"{STEP} === '3 of 4'")
+        it.key("?")
+        it.wait("at('keys-shown').open")
+        it.get("at('keys-close').click()")
+        # none of them where something is written
+        it.click("#script")
+        it.get("at('script').setSelectionRange(1e6, 1e6)")
+        it.key("l")
+        it.settle()
+        same("in the text", 4, len(it.commands()))
+
+
+@seconds(5)
+def test_what_one_may_try() -> None:
+    """From an empty machine to an upgrade race, a goal at a time; a race that was missed is told."""
+    with page() as it:
+        def goal() -> str:
+            return it.get("at('goal-count').textContent + ': ' + at('goal-says').textContent")
+        for number, selectors in enumerate([
+                ['[data-issue="0 load"]'], ["#all"], ['[data-issue="1 load"]', "#all"],
+                ['[data-issue="0 store"]', '[data-issue="1 store"]'], ['[data-command="deliver req 0 1"]'],
+                ['[data-command="deliver fwd 0 0"]'], ["#all"]], 1):
+            want(goal().startswith(f"Try ({number} of 8): "), f"goal {number} is {goal()!r}")
+            for selector in selectors:
+                it.do(selector)
+        same("core 0 lost its copy in its upgrade", True, "core 0 (SM_AD, Inv for core 1): to IM_AD; sends Inv-Ack to core 1"
+             in lockup("script", "--explain", "-", text=it.get("edits.text")).out)
+        want(goal().startswith("Try (8 of 8): Both stores are done"), f"the last is {goal()!r}")
+        # missed: all is delivered at once
+        it.begin()
+        loads = "".join(f"issue {core} 0 load 0\npump 9\n" for core in (0, 1))
+        it.open_text(it.get("EMPTY") + loads + "issue 0 1 store 0 1\nissue 1 1 store 0 1\n")
+        it.get("goals.reached = 4")
+        it.do("#all")
+        want("you missed it" in goal(), f"it says {goal()!r}")
+        it.do("#undo")
+        want("SM_AD" in goal(), f"it says {goal()!r}")
+        it.click("#goal-close")
+        it.do("#all")
+        want(it.get("at('goal').hidden"), "it stays")
+        # no other script is told what to try
+        it.begin()
+        it.open_text("state 0\n")
+        want(it.get("at('goal').hidden"), "it is there")
 
 
 @seconds(5)
@@ -307,6 +398,19 @@ def test_many_cores() -> None:
         it.wait("document.activeElement.dataset.issue === '41 load'")
 
 
+@seconds(8)
+def test_a_script_that_takes_long() -> None:
+    """It is stopped by a button, and the next one is played."""
+    with page() as it:
+        it.get("open('pump 1\\n'.repeat(149000))")
+        it.wait("!at('stop').hidden")
+        it.click("#stop")
+        it.wait("at('fault').textContent === 'stopped'")
+        it.settle()
+        it.open_text("state 0\n")
+        same("the next", ["1 of 1", True], it.get(f"[{STEP}, at('stop').hidden]"))
+
+
 # ---- tests, programs, exercises, tables, files
 
 def choose(it: Page, value: str) -> None:
@@ -334,7 +438,7 @@ def test_litmus() -> None:
         it.click('[data-to="litmus"]')
         it.get("at('rounds').value = 1000000")
         it.click("#walk")
-        it.wait("at('walk-says').textContent === 'at work ..'")
+        it.wait("/^[0-9]+ of 1000000 rounds$/.test(at('walk-says').textContent)")
         it.get("open('state 0\\n')")
         it.settle()
         same("meanwhile", "1 of 1", it.get(STEP))
@@ -345,12 +449,89 @@ def test_litmus() -> None:
 
 
 @seconds(8)
+def test_litmus_over_threads() -> None:
+    """Its outcomes stand beside those that were walked, in one table, and a forbidden one is marked."""
+    with page() as it:
+        choose(it, "litmus/mp")
+        it.click("#threads")
+        it.wait("!!document.querySelector('#outcomes table')")
+        allowed = read(ROOT / "examples/litmus/mp.outcomes").splitlines()
+        rows = "[...document.querySelectorAll('#outcomes tr')].map(it => [...it.children].map(it => it.innerText))"
+        heading, *alone = it.get(rows)
+        same("heading", ["a", "b", "over threads", ""], heading)
+        want(all(f"a={a} b={b}" in allowed for a, b, *_ in alone), f"outcomes are {alone}")
+        it.click("#walk")
+        it.wait("document.querySelectorAll('#outcomes th').length === 5")
+        heading, *both = it.get(rows)
+        same("heading", ["a", "b", "on random schedules", "over threads", ""], heading)
+        same("rounds over threads", {(a, b): count for a, b, count, _ in alone},
+             {(a, b): count for a, b, _, count, _ in both if count != "0"})
+        same("in order", sorted(both), both)
+        it.get("at('litmus-text').value += 'forbid a=0\\n'")
+        it.click("#threads")
+        it.wait("document.querySelectorAll('#outcomes th').length === 4")
+        want(it.get("document.querySelectorAll('#outcomes tr.bad').length") > 0, "no forbidden outcome is marked")
+        it.get("at('litmus-text').value = 'lockup-litmus 1\\nthread 0\\nlod 0 a\\n'")
+        it.click("#threads")
+        it.wait("at('outcomes').textContent.startsWith('lockup: line 3: not a command')")
+
+
+SHOWN = "(id => [...at(id).querySelectorAll('tr')].map(it => [...it.children].map(it => it.textContent)))"
+
+
+@seconds(8)
+def test_rows_of_programs() -> None:
+    """Over two settings and some seeds: the rows are those of the program, the plot has them, and they are saved."""
+    program = ROOT / "examples/programs/histogram_shared.txt"
+    wanted = lockup("run", program, "--set", "ways=1,2", "--set", "policy=lru,random 7", "--seeds", "1..3", "--csv").out
+    with page() as it:
+        choose(it, "programs/histogram_shared")
+        for name, value in [("vary-1", "ways"), ("values-1", "1, 2"), ("vary-2", "policy"), ("values-2", "lru,random 7"),
+                            ("seeds", "1..3")]:
+            it.get(f"at({json.dumps(name)}).value = {json.dumps(value)}")
+        it.click("#run-rows")
+        it.wait("!at('rows').hidden")
+        heading, *rows = [line.split(",") for line in wanted.splitlines()]
+        same("rows", [heading, *rows], it.get(f"{SHOWN}('row-table')"))
+        names = it.get("[...document.querySelectorAll('.legend .key')].map(it => it.textContent)")
+        same("series", ["policy lru", "policy random 7"], names)
+        # each point is as high as the mean of its rows
+        misses = heading.index("misses")
+        means = [sum(int(row[misses]) for row in rows if row[:2] == [ways, policy]) / 3
+                 for policy in ("lru", "random 7") for ways in ("1", "2")]
+        places = it.get("""[...document.querySelectorAll('.plot .point')].map(it => it.getAttribute('transform').match(/[0-9.]+/g)
+            .map(Number))""")
+        ticks = it.get("""[...document.querySelectorAll('.plot .grid')].map((it, order) =>
+            [Number(it.nextElementSibling.textContent.replaceAll(',', '')), Number(it.getAttribute('y1'))])""")
+        (low, bottom), (high, top) = ticks[0], ticks[-1]
+        heights = [low + (bottom - y) * (high - low) / (bottom - top) for _, y in places]
+        want(len(heights) == 4 and all(abs(a - b) < 0.01 * high for a, b in zip(means, heights)),
+             f"means are {means}, and drawn {heights}")
+        same("places", [True, True], [places[0][0] < places[1][0], places[2][0] < places[3][0]])
+        saved = it.get("""(() => { let blob; const make = URL.createObjectURL;
+            URL.createObjectURL = it => { blob = it; return make.call(URL, it); }; at('rows-save').click();
+            URL.createObjectURL = make; return blob.text(); })()""")
+        same("the file", wanted, saved)
+        # over seeds alone, and what is refused
+        it.get("['vary-1', 'vary-2'].forEach(id => { at(id).value = ''; })")
+        it.click("#run-rows")
+        it.wait("document.querySelectorAll('.plot .point').length === 3")
+        it.get("at('seeds').value = '5..1'")
+        it.click("#run-rows")
+        it.wait("at('report').textContent === 'lockup: --seeds 5..1: runs backwards\\n'")
+
+
+@seconds(8)
 def test_programs_exercises_and_tables() -> None:
     with page() as it:
         choose(it, "programs/ping_pong")
         it.click("#run-report")
-        report = it.wait("document.getElementById('report').textContent")
-        same("report", lockup("run", ROOT / "examples/programs/ping_pong.txt").out, report)
+        it.wait("!!document.querySelector('#report table')")
+        report = json.loads(lockup("run", "--json", ROOT / "examples/programs/ping_pong.txt").out)
+        wanted = [[*map(str, row.values())] for row in (*report["cores"], *report["lines"])]
+        shown = it.get(f"{SHOWN}('report')")
+        same("report", wanted, [row for row in shown if row[0].isdigit()])
+        same("its sums", ["all", *map(str, report["all"].values())], shown[-1])
         it.click("#run-see")
         it.wait("document.body.dataset.tab === 'play'")
         it.settle()
@@ -378,6 +559,28 @@ def test_programs_exercises_and_tables() -> None:
 
 
 @seconds(5)
+def test_the_row_that_was_taken() -> None:
+    """The whole tables mark the row and the cell of the step that is shown, as explained answers name it."""
+    script = read(ROOT / "examples/two_upgrades_at_once.txt")
+    marked = """[...document.querySelectorAll('.taken')].map(it => [it.firstChild, it.querySelector('.taken-cell')]
+        .map(it => it.textContent))"""
+    with page() as it:
+        it.open_text(script)
+        it.click('[data-to="tables"]')
+        for command, row, cell in [("deliver data 0 0", "SM_AD", "M"), ("deliver fwd 0 1", "SM_AD", "Inv-Ack; IM_AD"),
+                                   ("deliver req 0 1", "M, owner o", "Fwd-GetM to o; M, owner r")]:
+            step = it.get(f"edits.lines.indexOf({json.dumps(command)}) + 1")
+            while it.get("shown.line") != step:
+                before = it.get("shown.now")
+                it.key("ArrowLeft")
+                it.wait(f"shown.now < {before}")
+            it.wait(f"JSON.stringify({marked}) === {json.dumps(json.dumps([[row, cell]], separators=(',', ':')))}")
+        it.open_text("exclusive on\nissue 0 0 load 0\ndeliver req 0 0\n")
+        it.click('[data-to="tables"]')
+        it.wait(f"JSON.stringify({marked}).includes('I (exclusive on)')")
+
+
+@seconds(5)
 def test_files_and_links() -> None:
     """A link that is copied opens the same script; a file that is loaded is the script."""
     script = read(ROOT / "examples/two_upgrades_at_once.txt")
@@ -400,8 +603,42 @@ def test_files_and_links() -> None:
         same("it stays over a reload", script + "state 0\n", it.get("edits.text"))
         it.open_text(script)
         same("save gives the text", script, it.get("""(() => { let blob; const make = URL.createObjectURL;
-            URL.createObjectURL = it => { blob = it; return make.call(URL, it); }; save(); URL.createObjectURL = make;
-            return blob.text(); })()"""))
+            URL.createObjectURL = it => { blob = it; return make.call(URL, it); }; at('save').click();
+            URL.createObjectURL = make; return blob.text(); })()"""))
+
+
+@seconds(5)
+def test_a_page_of_a_script() -> None:
+    """tools/browser makes a page that opens with a script; what is none it refuses."""
+    file = ROOT / "examples/false_sharing.txt"
+    made = run([ROOT / "tools/browser", "--to", folder(), "--page", file])
+    same("tools/browser", (0, f"{folder()}/false_sharing.html\n", ""), tuple(made))
+    with Page() as it:
+        it.open(f"file://{folder()}/false_sharing.html")
+        it.wait("document.body && document.body.dataset.step")
+        it.settle()
+        same("its script", read(file), it.get("edits.text"))
+        count = len(it.commands())
+        it.do("#undo")
+        same("a command less", count - 1, len(it.commands()))
+    (folder() / "false_sharing.html").unlink()
+    for text, said in [("state x\n", "lockup: line 1: bad number"), (None, "nothing can't be read")]:
+        with tempfile.TemporaryDirectory() as room:
+            wrong = write(f"{room}/wrong.txt", text) if text else f"{room}/nothing"
+            ran = run([ROOT / "tools/browser", "--to", folder(), "--page", wrong])
+            want(ran.status == 2 and said in ran.err, f"it says {ran.err!r}")
+
+
+# what came to browsers after 2023
+NEW = re.compile(r"withResolvers|\bgroupBy\b|fromAsync|Promise\.try|RegExp\.escape|fromBase64|toBase64|Iterator\."
+                 r"|\.(union|intersection|difference)\(|popover|\busing \w+ =|@starting-style|anchor-name|text-wrap|field-sizing")
+
+
+def test_nothing_new() -> None:
+    """Neither code nor style has what browsers of 2023 lack: Safari and Firefox aren't tried here."""
+    for file in sorted((ROOT / "browser").rglob("*")):
+        if file.suffix in (".js", ".mjs", ".css", ".html") and "out" not in file.parts:
+            same(f"new words in {file.relative_to(ROOT)}", [], [line for line in read(file).splitlines() if NEW.search(line)])
 
 
 HOSTILE = """# </script><script>top.hit = 1; parent.hit = 1</script><img src=x onerror="hit = 1"><b>bold</b>

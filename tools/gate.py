@@ -13,6 +13,7 @@ import resource
 import shutil
 import subprocess
 import sys
+import tempfile
 import threading
 import time
 from dataclasses import dataclass
@@ -78,9 +79,10 @@ def run(log):
 def call(log, label, words):
     """Runs one call of the prover, as rt asked for it, and notes it. Returns its status."""
     began = time.time()
-    status = subprocess.run([*words, *keeping(words)]).returncode
-    used = resource.getrusage(resource.RUSAGE_CHILDREN)
     crate = words[words.index("--crate-name") + 1] if "--crate-name" in words else "-"
+    is_program = kind_of(words) == "compile" and words[words.index("--backend") + 1] == "llvm"
+    status = compiled(crate, words) if is_program else subprocess.run([*words, *keeping(words)]).returncode
+    used = resource.getrusage(resource.RUSAGE_CHILDREN)
     since = float(os.environ[BEGAN])
     row = [crate, kind_of(words), label, began - since, time.time() - since, used.ru_utime + used.ru_stime, used.ru_maxrss / 1024]
     with open(log, "a", encoding="utf-8") as it:
@@ -94,6 +96,17 @@ def keeping(words):
         return []
     shutil.rmtree(kit.CHECKED, ignore_errors=True)
     return ["-o", kit.CHECKED]
+
+
+def compiled(crate, words):
+    """Has LLVM compile a program that was proved, in the crate's folder, and keeps the module. Returns the status."""
+    with tempfile.TemporaryDirectory(prefix="lockup-module-") as room:
+        at = words.index("--toolchain") + 1
+        words = [*words[:at], kit.toolchain(kit.load_rt(), room, kit.KEEPS_MODULE), *words[at + 1 :]]
+        status = subprocess.run(words).returncode
+        if not status:
+            shutil.copyfile(f"{room}/module.bc", kit.module_of(f"out/{crate}"))
+        return status
 
 
 def kind_of(words):

@@ -1,16 +1,18 @@
-"""The program as a browser has it: tools/browser builds its module and page once in a run of the tests, and node runs it."""
+"""The program as a browser has it: tools/browser builds its module and page once in a run of the tests, and node runs it. It
+is the module of the proved program, where the gate or ./build has left one of these sources, and else the unproved program's."""
 import json
 import tempfile
 from pathlib import Path
-from typing import Iterator, NamedTuple, Sequence
+from typing import Iterable, Iterator, NamedTuple, Sequence
 
 from .compare import Different, Skipped
 from .processes import ROOT, Ran, alone, needs, run
 
 TOOLS = ("opt-16", "llc-16", "clang-16", "wasm-ld-16", "wasm-opt", "node")
-PARTS = ("tools/wasm.py", "tools/native.py", "browser/shim.c", "crates.txt")
+PARTS = ("tools/wasm.py", "tools/native.py", "browser/shim.c")
 FOLDER = ROOT / "browser/out"
 MODULE = FOLDER / "lockup.wasm"
+PROVED = ROOT / "crates/lockup/out/lockup.bc"
 
 
 class Call(NamedTuple):
@@ -21,23 +23,28 @@ class Call(NamedTuple):
 
 
 def folder() -> Path:
-    """Returns the folder of lockup.wasm and lockup.html: the module of the unproved program, built where sources are newer, and
-    the page around it, put together once in a run of the tests."""
+    """Returns the folder of lockup.wasm and lockup.html: the module, built where what it is made of is newer, and the page
+    around it, put together once in a run of the tests."""
     needs(*TOOLS, "rt")
     with alone("browser"):
-        if not (MODULE.is_file() and MODULE.stat().st_mtime > max(it.stat().st_mtime for it in sources())):
-            build("--unproved")
+        is_proved = PROVED.is_file() and is_newer(PROVED, code())
+        if not (MODULE.is_file() and is_newer(MODULE, [*tools(), PROVED] if is_proved else [*tools(), *code()])):
+            build(*[] if is_proved else ["--unproved"])
         elif not put_together().exists():
             build("--page")
     return FOLDER
 
 
-def build(how: str) -> None:
+def is_newer(made: Path, sources: Iterable[Path]) -> bool:
+    return made.stat().st_mtime > max(it.stat().st_mtime for it in sources)
+
+
+def build(*how: str) -> None:
     failed = Path(tempfile.gettempdir()) / "browser.failed"
     # one that another test began and could not build isn't begun again
     if failed.exists():
         raise Skipped("tools/browser failed")
-    ran = run(["nice", ROOT / "tools/browser", how, "--to", FOLDER], timeout=None)
+    ran = run(["nice", ROOT / "tools/browser", *how, "--to", FOLDER], timeout=None)
     if ran.status:
         failed.touch()
         raise Different(f"tools/browser fails:\n{ran.err}")
@@ -49,9 +56,14 @@ def put_together() -> Path:
     return Path(tempfile.gettempdir()) / "browser.page"
 
 
-def sources() -> Iterator[Path]:
-    """Returns what the module is made of."""
-    yield from (ROOT / it for it in PARTS)
+def tools() -> list[Path]:
+    """Returns what compiles the module."""
+    return [ROOT / it for it in PARTS]
+
+
+def code() -> Iterator[Path]:
+    """Returns what the program is made of."""
+    yield ROOT / "crates.txt"
     for crate in (ROOT / "crates").iterdir():
         yield from (crate / "src").rglob("*.rt")
 

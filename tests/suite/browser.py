@@ -8,21 +8,19 @@ status, byte by byte.
 - how far a run that is watched says it has got;
 - scripts that are drawn, of 100,000 calls;
 - all of these in one process, one call after another: none finds anything of the one before it;
-- what a command line in node does; what tools/browser says of packages that aren't there; a small program, proved as ./build
-  proves this one, of the module that is kept of it; and that a run which asks for more memory than there is ends with `no memory`.
+- what a command line in node does; what tools/browser says of packages that aren't there; and that a run which asks for more
+  memory than there is ends with `no memory`.
 """
-import os
 import re
-import shutil
 import sys
 import tempfile
 from pathlib import Path
 
-from harness import ROOT, Ran, Skipped, lockup, needs, run, same, seconds, want, write
-from harness.browser import TOOLS, Call, asked, folder
+from harness import ROOT, Ran, lockup, read, run, same, seconds, want, write
+from harness.browser import Call, asked, folder
 from harness.cases import Case, all_cases, placed
 from harness.generator import Generator
-from harness.processes import program, read
+from harness.processes import program
 
 SCRIPTS = [["script"], ["script", "--explain"], ["script", "--json"], ["script", "--beside"], ["page"],
            ["page", "--branches", "2"], ["page", "--guess"], ["chart"], ["chart", "--svg"], ["script", "--vcd"], ["check"]]
@@ -142,51 +140,6 @@ def test_a_command_line() -> None:
     for words, text in [(["--version"], ""), (["script", example], ""), (["script", "-"], "state 0\nstate x\n"),
                         (["script"], ""), (["script", "there is none"], ""), (["try"], "state 0\nhelp\nquit\n")]:
         same(f"lockup {words}", run([program(), *words], text), run([*node, *words], text))
-
-
-# Proves a small program as ./build proves this one, and compiles what was kept of it.
-PROVE = """
-import os, sys
-sys.path.insert(0, sys.argv[1])
-import kit, wasm
-rt = kit.load_rt()
-[crate] = kit.strict_crates_of(rt, os.getcwd())
-os.makedirs(f"{crate.folder}/out")
-os.chdir(crate.folder)
-program = f"{crate.folder}/out/{crate.name}"
-sys.exit(kit.prove_program(rt, crate, ["--jobs", "1"])
-         or wasm.compile_module(rt.rtlib.KIT, crate.folder, kit.module_of(program), f"{program}.wasm"))
-"""
-RUN = """
-import fs from 'node:fs';
-import { Machine } from '%s/browser/machine.mjs';
-const machine = new Machine(new WebAssembly.Module(fs.readFileSync(process.argv[2])));
-const { status, out } = machine.run([Buffer.from('program')], fs.readFileSync(process.argv[3]));
-fs.writeSync(1, Buffer.concat(out));
-process.exitCode = status;
-"""
-
-
-@seconds(60)
-def test_a_proved_program() -> None:
-    """The module that is kept of a proved program does in a browser what the program does: the kit's example that reads and
-    writes."""
-    needs("rt", "git", *TOOLS)
-    kit = Path(os.path.realpath(str(shutil.which("rt")))).parents[1]
-    example = kit / "rattle/examples/start_io"
-    if not example.is_dir():
-        raise Skipped("the kit has no example start_io")
-    with tempfile.TemporaryDirectory() as room:
-        shutil.copytree(example, f"{room}/start_io")
-        shutil.copy(ROOT / "HANDLES", room)
-        run(["git", "init", "--quiet", room])
-        proved = run(["nice", sys.executable, "-B", "-c", PROVE, ROOT / "tools"], cwd=room)
-        same("it is proved and compiled", (0, ""), (proved.status, proved.err))
-        made = Path(room, "start_io/out/start_io")
-        write(f"{room}/run.mjs", RUN % ROOT)
-        ran = run(["node", f"{room}/run.mjs", f"{made}.wasm", example / "stdin"])
-        same("in node", (0, read(example / "stdout"), ""), tuple(ran))
-        same("as itself", read(example / "stdout"), run([made], read(example / "stdin")).out)
 
 
 def test_what_is_missing() -> None:

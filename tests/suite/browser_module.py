@@ -1,9 +1,8 @@
-"""Builds the program for a browser without a proof, by tools/browser: the tests of `browser` and `playground` run it."""
+"""Builds the program for a browser, by tools/browser: the tests of `browser` and `playground` run it. Behind the gate it is of
+the module that LLVM was handed of the proved program."""
 from harness import ROOT, seconds, want
 from harness.browser import folder
 
-# it is built while the gate proves
-NEEDS_PROGRAM = False
 # one file that is sent by mail
 MOST = 1_500_000
 

@@ -30,6 +30,8 @@ class Litmus {
     async ask(way, words) {
         const text = at('litmus-text').value;
         if (text !== this.text) this.forget(text);
+        this[way] = null;
+        this.draw();
         const { out, err } = await this.work.ask(text, words);
         if (text !== this.text) return;
         const told = out && numbersOf(out);
@@ -44,6 +46,10 @@ class Litmus {
     }
     draw() {
         const found = [this.walked, this.threaded].filter(it => it);
+        if (found.length === 0) {
+            at('outcomes').replaceChildren();
+            return;
+        }
         const { names, counters } = found[0];
         const rounds = (told, values) => {
             const row = told.outcomes.find(it => compared(it.values.map(String), values) === 0);

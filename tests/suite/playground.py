@@ -467,7 +467,7 @@ def test_litmus_over_threads() -> None:
         same("rounds over threads", {(a, b): count for a, b, count, _ in alone},
              {(a, b): count for a, b, _, count, _ in both if count != "0"})
         same("in order", sorted(both), both)
-        it.get("at('litmus-text').value += 'forbid a=0\\n'")
+        it.get(f"at('litmus-text').value += 'forbid a={alone[0][0]}\\n'")
         it.click("#threads")
         it.wait("document.querySelectorAll('#outcomes th').length === 4")
         want(it.get("document.querySelectorAll('#outcomes tr.bad').length") > 0, "no forbidden outcome is marked")

@@ -9,7 +9,8 @@ const isOver = told => copiesIn(told, 'SM_AD') === 0;
 
 // A goal, when it is reached, and when it can't be any more.
 const GOALS = [
-    { says: 'Let core 0 load word 0: press its "load".', is: told => told.count > 0 },
+    { says: 'Two cores, each with a cache, and the directory of their memory. Nothing moves by itself: you choose each access '
+        + 'and each message. Let core 0 load word 0: press its "load".', is: told => told.count > 0 },
     { says: 'Core 0 has no copy, so it asks for one: GetS is on its way to the directory. Deliver it, and then the Data that '
         + 'answer it: press them below, or the open ends of their arrows.', is: told => copiesIn(told, 'S', 'E', 'M') > 0 },
     { says: 'Core 0 has its copy. Let core 1 load the same word, and deliver its messages too.',

@@ -1,7 +1,8 @@
 // ---- what the keys do, where nothing is written
 
 const LETTERS = { l: 'load', s: 'store', a: 'add', c: 'cas' };
-const STEPS = { ArrowLeft: -1, ArrowRight: 1, PageUp: -1, PageDown: 1, Home: -Infinity, End: Infinity };
+const STEPS = { ArrowLeft: -1, ArrowRight: 1, Home: -Infinity, End: Infinity };
+const EVENTS = { PageUp: -1, PageDown: 1 };
 const SAID = [
     ['L, S, A, C', 'load, store, add or cas of the core that is marked, to the word that stands above it'],
     ['arrow up, down', 'marks another core'],
@@ -10,7 +11,8 @@ const SAID = [
     ['N, Shift N', 'delivers the next message; all that can be'],
     ['H, E', 'goes to the replies to hand out; to the copies to evict: Enter does it, Tab goes on'],
     ['U, R', 'undo, redo; as Ctrl Z and Ctrl Y'],
-    ['arrow left, right', 'a step back, forward, as PageUp and PageDown; Home and End: to the first, to the last'],
+    ['arrow left, right', 'a step back, forward; Home and End: to the first, to the last'],
+    ['PageUp, PageDown', 'to the event before, to the next one'],
     ['?', 'shows this'],
 ];
 
@@ -36,6 +38,7 @@ class Keys {
         const isPlay = document.body.dataset.tab === PLAY;
         if (key === '?') this.show();
         else if (STEPS[key]) this.run.go(STEPS[key]);
+        else if (EVENTS[key]) this.run.goEvent(EVENTS[key]);
         else return isPlay && this.act(key);
         return true;
     }

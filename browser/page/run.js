@@ -34,6 +34,9 @@ class Run {
     go(by) {
         this.send({ go: by });
     }
+    goEvent(by) {
+        this.send({ goEvent: by });
+    }
 }
 function joined(before, run) {
     return { same: before.same, steps: [...before.steps.slice(0, run.same - before.same), ...run.steps] };

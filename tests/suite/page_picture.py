@@ -288,11 +288,13 @@ def test_values() -> None:
 def test_all_that_is_performed() -> None:
     """Eight loads of one line are performed by one delivery."""
     script = "cores 1\ntargets 8\n" + "".join(f"issue 0 {tag} load {tag}\n" for tag in range(8))
-    with page(script + "deliver req 0 0\ndeliver data 0 0\n", "#step=10") as it:
-        same("what stands there", [f"#{number} load {number}: 0" for number in range(8)], it.texts(".performed"))
+    with page(script + "deliver req 0 0\ndeliver data 0 0\nissue 0 9 load 0\n", "#step=10") as it:
+        same("what stands there", [*(f"#{number} load {number}: 0" for number in range(8)), "#8 load 0: 0"],
+             it.texts(".performed"))
         same("labels", [], it.get("badLabels()"))
         heights = [y for y, in it.numbers(".row .rule", "y1")]
         want(all(below - above > 39 for above, below in zip(heights, heights[1:])), f"rows stand at {heights}")
+        want(heights[10] - heights[9] > 8 * 13, f"the row after those loads stands at {heights[10]}, theirs at {heights[9]}")
 
 
 @seconds(5)

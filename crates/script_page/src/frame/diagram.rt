@@ -118,8 +118,10 @@ function draw() {
     const held = document.activeElement && document.activeElement.id === 'cursor';
     const { inside, open } = pictureOfRows(place, inView, flying);
     for (const it of [inside, open]) it.setAttribute('clip-path', 'url(#clip)');
-    svg.replaceChildren(clip, ...inView.map(it => drawRow(place, it)), inside, ...drawEnd(place), ...drawCursor(place), open,
-        moving, ...drawHead(place));
+    // at the last step the run's end is no future
+    const [end, isOver] = [drawEnd(place), now === steps.length];
+    svg.replaceChildren(clip, ...inView.map(it => drawRow(place, it)), inside, ...isOver ? [] : end, ...drawCursor(place),
+        ...isOver ? end : [], open, moving, ...drawHead(place));
     if (held) at('cursor').focus();
 }
 

@@ -92,14 +92,15 @@ abbrev pub litmus_app : App
 litmus_app =
     with_rules (new_app (codes "litmus"))
     (file_rule ∷ number_rule_or (codes "seed") (codes "1") ∷ number_rule_or (codes "limit") (codes "1000000")
-    ∷ flag_rule (codes "json") ∷ [])
+    ∷ flag_rule (codes "json") ∷ flag_rule (codes "explain") ∷ [])
 
 -- the subcommand that runs one on random schedules, or prints a schedule
 abbrev pub walk_app : App
 walk_app =
     with_rules (new_app (codes "walk"))
     (file_rule ∷ positive_rule (codes "rounds") ∷ number_rule_or (codes "seed") (codes "1")
-    ∷ positive_rule (codes "limit") ∷ flag_rule (codes "script") ∷ lone_rule (codes "page") ∷ lone_rule (codes "json") ∷ [])
+    ∷ positive_rule (codes "limit") ∷ flag_rule (codes "script") ∷ lone_rule (codes "page") ∷ lone_rule (codes "json")
+    ∷ flag_rule (codes "explain") ∷ [])
 
 -- an option `--name` that takes a text
 abbrev pub text_rule : Text → Rule
@@ -119,7 +120,7 @@ run_app =
     with_rules (new_app (codes "run"))
     (file_rule ∷ few_rule (codes "outstanding") ∷ number_rule_or (codes "seed") (codes "1") ∷ flag_rule (codes "json")
     ∷ settings_rule (codes "set") ∷ lone_text_rule (codes "seeds") ∷ lone_rule (codes "csv")
-    ∷ lone_rule (codes "script") ∷ lone_rule (codes "page") ∷ [])
+    ∷ lone_rule (codes "script") ∷ lone_rule (codes "page") ∷ lone_rule (codes "explain") ∷ [])
 
 -- the argument that names a workload, which has to be there
 abbrev pub name_rule : Rule
@@ -134,11 +135,13 @@ generate_app =
 
 -- the subcommand that tests a script
 abbrev pub test_app : App
-test_app = with_rules (new_app (codes "test")) (file_rule ∷ flag_rule (codes "first") ∷ [])
+test_app =
+    with_rules (new_app (codes "test")) (file_rule ∷ flag_rule (codes "first") ∷ flag_rule (codes "explain") ∷ [])
 
 -- the subcommand that judges a trace
 abbrev pub check_app : App
-check_app = with_rules (new_app (codes "check")) (file_rule ∷ flag_rule (codes "json") ∷ [])
+check_app =
+    with_rules (new_app (codes "check")) (file_rule ∷ flag_rule (codes "json") ∷ flag_rule (codes "explain") ∷ [])
 
 -- the subcommand that prints one of these tables
 abbrev pub table_app : Bor (List (Bor Text)) → App
@@ -314,21 +317,21 @@ IsLine name rows (command_lines.Chart file svg line) =
 IsLine name rows (command_lines.Page file branches guess) =
     (name ≡ codes "page") × (first_of (codes "FILE") rows ≡ Some file.now)
     × IsNumberIfGiven (codes "branches") rows branches × (guess ≡ is_given (codes "guess") rows)
-IsLine name rows (command_lines.Litmus file seed limit json) =
+IsLine name rows (command_lines.Litmus file seed limit json explain) =
     (name ≡ codes "litmus") × (first_of (codes "FILE") rows ≡ Some file.now)
     × IsNumberOf (codes "seed") rows seed × IsNumberOf (codes "limit") rows limit
-    × (json ≡ is_given (codes "json") rows)
-IsLine name rows (command_lines.Walk file rounds seed limit script page json) =
+    × (json ≡ is_given (codes "json") rows) × (explain ≡ is_given (codes "explain") rows)
+IsLine name rows (command_lines.Walk file rounds seed limit script page json explain) =
     (name ≡ codes "walk") × (first_of (codes "FILE") rows ≡ Some file.now)
     × IsNumberIfGiven (codes "rounds") rows rounds × IsNumberOf (codes "seed") rows seed
     × IsNumberIfGiven (codes "limit") rows limit
     × (script ≡ is_given (codes "script") rows) × (page ≡ is_given (codes "page") rows)
-    × (json ≡ is_given (codes "json") rows)
-IsLine name rows (command_lines.Run file outstanding seed json script page) =
+    × (json ≡ is_given (codes "json") rows) × (explain ≡ is_given (codes "explain") rows)
+IsLine name rows (command_lines.Run file outstanding seed json script page explain) =
     (name ≡ codes "run") × (first_of (codes "FILE") rows ≡ Some file.now)
     × IsNumberIfGiven (codes "outstanding") rows outstanding × IsNumberOf (codes "seed") rows seed
     × (json ≡ is_given (codes "json") rows) × (script ≡ is_given (codes "script") rows)
-    × (page ≡ is_given (codes "page") rows) × (is_swept rows ≡ false)
+    × (page ≡ is_given (codes "page") rows) × (explain ≡ is_given (codes "explain") rows) × (is_swept rows ≡ false)
 IsLine name rows (command_lines.Sweep file outstanding seed seeds json) =
     (name ≡ codes "run") × (first_of (codes "FILE") rows ≡ Some file.now)
     × IsNumberIfGiven (codes "outstanding") rows outstanding × IsNumberOf (codes "seed") rows seed
@@ -337,10 +340,12 @@ IsLine name rows (command_lines.Sweep file outstanding seed seeds json) =
 IsLine name rows (command_lines.Generate workload cores size seed) =
     (name ≡ codes "generate") × (first_of (codes "NAME") rows ≡ Some workload.now)
     × IsNumberOf (codes "cores") rows cores × IsNumberOf (codes "size") rows size × IsNumberOf (codes "seed") rows seed
-IsLine name rows (command_lines.Test file first) =
-    (name ≡ codes "test") × (first_of (codes "FILE") rows ≡ Some file.now) × (first ≡ is_given (codes "first") rows)
-IsLine name rows (command_lines.Check file json) =
-    (name ≡ codes "check") × (first_of (codes "FILE") rows ≡ Some file.now) × (json ≡ is_given (codes "json") rows)
+IsLine name rows (command_lines.Test file first explain) =
+    (name ≡ codes "test") × (first_of (codes "FILE") rows ≡ Some file.now)
+    × (first ≡ is_given (codes "first") rows) × (explain ≡ is_given (codes "explain") rows)
+IsLine name rows (command_lines.Check file json explain) =
+    (name ≡ codes "check") × (first_of (codes "FILE") rows ≡ Some file.now)
+    × (json ≡ is_given (codes "json") rows) × (explain ≡ is_given (codes "explain") rows)
 IsLine name rows (command_lines.Table table exclusive json) =
     (name ≡ codes "table") × (first_of (codes "TABLE") rows ≡ Some (word_of table))
     × (exclusive ≡ is_given (codes "exclusive") rows) × (json ≡ is_given (codes "json") rows)

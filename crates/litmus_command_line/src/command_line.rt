@@ -40,12 +40,14 @@ pub enum CommandLine<'a> {
         guess: bool,
     },
     /// Run the litmus test in this file over threads. The seed is that of the cores' extra turns, and no run takes more
-    /// turns than `limit`. With `json`, print its outcomes as a value of JSON.
+    /// turns than `limit`. With `json`, print its outcomes as a value of JSON. Here and below, with `explain` explain an
+    /// error.
     Litmus {
         file: &'a str,
         seed: u64,
         limit: u64,
         json: bool,
+        explain: bool,
     },
     /// Run the litmus test in this file on random schedules: so many rounds, or as many as it says, of which the first
     /// has this seed. A round is given up that isn't over after `limit` moves, if a number is given. With `json`, print
@@ -59,6 +61,7 @@ pub enum CommandLine<'a> {
         script: bool,
         page: bool,
         json: bool,
+        explain: bool,
     },
     /// Run the programs in this file in the order that the seed draws, with so many accesses of a core under way, if a
     /// number is given, and not as many as the text says. With `json`, report as a value of JSON. With `script`, print
@@ -70,6 +73,7 @@ pub enum CommandLine<'a> {
         json: bool,
         script: bool,
         page: bool,
+        explain: bool,
     },
     /// Run the programs in this file once for each combination of the settings that `read_settings` reads, and for each
     /// of the seeds, or for the one seed where none are given. With `json`, print the rows as a value of JSON.
@@ -91,11 +95,14 @@ pub enum CommandLine<'a> {
     Test {
         file: &'a str,
         first: bool,
+        explain: bool,
     },
-    /// Judge the trace in this file. With `json`, print the verdict as a value of JSON.
+    /// Judge the trace in this file. With `json`, print the verdict as a value of JSON. With `explain`, explain it, or an
+    /// error.
     Check {
         file: &'a str,
         json: bool,
+        explain: bool,
     },
     /// Print a table of the protocol, with the exclusive state or without it. With `json`, print its rows as values of
     /// JSON.
@@ -248,11 +255,13 @@ fn litmus_line<'a>(given: &ArgMatches<'a>) -> Option<CommandLine<'a>>
     let seed = number_of(given, "seed")?;
     let limit = number_of(given, "limit")?;
     let json = is_given(given, "json");
+    let explain = is_given(given, "explain");
     Some(CommandLine::Litmus {
         file,
         seed,
         limit,
         json,
+        explain,
     })
 }
 
@@ -266,6 +275,7 @@ fn walk_line<'a>(given: &ArgMatches<'a>) -> Option<CommandLine<'a>>
     let script = is_given(given, "script");
     let page = is_given(given, "page");
     let json = is_given(given, "json");
+    let explain = is_given(given, "explain");
     Some(CommandLine::Walk {
         file,
         rounds,
@@ -274,6 +284,7 @@ fn walk_line<'a>(given: &ArgMatches<'a>) -> Option<CommandLine<'a>>
         script,
         page,
         json,
+        explain,
     })
 }
 
@@ -287,6 +298,7 @@ fn run_line<'a>(given: &ArgMatches<'a>) -> Option<CommandLine<'a>>
     if !is_swept(given) {
         let script = is_given(given, "script");
         let page = is_given(given, "page");
+        let explain = is_given(given, "explain");
         return Some(CommandLine::Run {
             file,
             outstanding,
@@ -294,6 +306,7 @@ fn run_line<'a>(given: &ArgMatches<'a>) -> Option<CommandLine<'a>>
             json,
             script,
             page,
+            explain,
         });
     }
     let seeds = text_if_given(given, "seeds");
@@ -326,7 +339,12 @@ fn test_line<'a>(given: &ArgMatches<'a>) -> Option<CommandLine<'a>>
 {
     let file = file_of(given)?;
     let first = is_given(given, "first");
-    Some(CommandLine::Test { file, first })
+    let explain = is_given(given, "explain");
+    Some(CommandLine::Test {
+        file,
+        first,
+        explain,
+    })
 }
 
 fn check_line<'a>(given: &ArgMatches<'a>) -> Option<CommandLine<'a>>
@@ -334,7 +352,12 @@ fn check_line<'a>(given: &ArgMatches<'a>) -> Option<CommandLine<'a>>
 {
     let file = file_of(given)?;
     let json = is_given(given, "json");
-    Some(CommandLine::Check { file, json })
+    let explain = is_given(given, "explain");
+    Some(CommandLine::Check {
+        file,
+        json,
+        explain,
+    })
 }
 
 fn table_line<'a>(given: &ArgMatches<'a>) -> Option<CommandLine<'a>>

@@ -46,6 +46,9 @@ use std::alloc::{AllocError, Global};
 
 mod help;
 
+/// What `--explain` does where it says nothing of answers.
+const EXPLAIN_ERROR: &str = "Explain an error: what could stand there, or why FILE can't be read";
+
 /// The words that name a table.
 static TABLES: [&str; 2] = ["cache", "directory"];
 
@@ -80,6 +83,7 @@ fn top<'a>(alloc: Global) -> Command<'a>
     Command::new(alloc, "lockup")
         .about("Runs a verified model of lockup-free caches under a directory protocol")
         .version("0.3.0")
+        .after_help(help::TOP)
         .subcommand_required(true)
 }
 
@@ -150,7 +154,11 @@ fn script<'a>(alloc: Global) -> Result<Command<'a>, AllocError>
     );
     let command = and(
         command,
-        flag(alloc, "explain", "Print behind each answer what happened"),
+        flag(
+            alloc,
+            "explain",
+            "Print behind each answer what happened, and explain an error",
+        ),
     );
     let command = and_made(
         command,
@@ -283,10 +291,11 @@ fn litmus<'a>(alloc: Global) -> Result<Command<'a>, AllocError>
         command,
         number_or(alloc, "limit", "How many turns a run may take", "1000000"),
     );
-    and(
+    let command = and(
         command,
         flag(alloc, "json", "Print the outcomes as one value of JSON"),
-    )
+    );
+    and(command, flag(alloc, "explain", EXPLAIN_ERROR))
 }
 
 fn walk<'a>(alloc: Global) -> Result<Command<'a>, AllocError>
@@ -337,7 +346,7 @@ fn walk<'a>(alloc: Global) -> Result<Command<'a>, AllocError>
             &["script"],
         ),
     );
-    and_made(
+    let command = and_made(
         command,
         lone_flag(
             alloc,
@@ -345,7 +354,8 @@ fn walk<'a>(alloc: Global) -> Result<Command<'a>, AllocError>
             "Print the outcomes as one value of JSON",
             &["script", "page"],
         ),
-    )
+    );
+    and(command, flag(alloc, "explain", EXPLAIN_ERROR))
 }
 
 fn run<'a>(alloc: Global) -> Result<Command<'a>, AllocError>
@@ -413,7 +423,7 @@ fn run<'a>(alloc: Global) -> Result<Command<'a>, AllocError>
             &["json", "set", "seeds", "csv"],
         ),
     );
-    and_made(
+    let command = and_made(
         command,
         lone_flag(
             alloc,
@@ -421,6 +431,10 @@ fn run<'a>(alloc: Global) -> Result<Command<'a>, AllocError>
             "Print the same as a page for a browser",
             &["json", "set", "seeds", "csv", "script"],
         ),
+    );
+    and_made(
+        command,
+        lone_flag(alloc, "explain", EXPLAIN_ERROR, &["set", "seeds", "csv"]),
     )
 }
 
@@ -463,10 +477,11 @@ fn test<'a>(alloc: Global) -> Result<Command<'a>, AllocError>
         command,
         file(alloc, "The script: one command a line; - is standard input"),
     );
-    and(
+    let command = and(
         command,
         flag(alloc, "first", "Print the first difference alone"),
-    )
+    );
+    and(command, flag(alloc, "explain", EXPLAIN_ERROR))
 }
 
 fn check<'a>(alloc: Global) -> Result<Command<'a>, AllocError>
@@ -476,15 +491,23 @@ fn check<'a>(alloc: Global) -> Result<Command<'a>, AllocError>
         alloc,
         "check",
         "Judges a trace: whether its log is legal and ordered, or which entry is wrong, and why",
-        "Example: lockup check examples/illegal_trace.txt",
+        help::CHECK,
     );
     let command = and(
         command,
         file(alloc, "The trace: one entry a line; - is standard input"),
     );
-    and(
+    let command = and(
         command,
         flag(alloc, "json", "Print the verdict as one value of JSON"),
+    );
+    and(
+        command,
+        flag(
+            alloc,
+            "explain",
+            "Print behind the verdict what was expected, and explain an error",
+        ),
     )
 }
 

@@ -1,5 +1,10 @@
 //! The longer texts of the program's help.
 
+/// What stands below the subcommands.
+pub const TOP: &str = "\
+Where a file can't be read, or a line in it is wrong, add --explain to script, litmus, walk, run, test
+or check: the error then says why, or what could stand there.";
+
 /// What stands below the options of `script`.
 pub const SCRIPT: &str = "\
 Commands:
@@ -170,6 +175,16 @@ that differs in it, and the status is 1; or else how many lines are as wanted:
 Documents: docs/TEXTS.md
 
 Example: lockup test examples/exercises/first_miss.txt";
+
+/// What stands below the options of `check`.
+pub const CHECK: &str = "\
+With --explain the line of the wrong entry follows the verdict, and what was expected there:
+
+  illegal entry 1: reply   line 5: expected reply 5, written by entry 0 in line 4
+
+Documents: docs/TEXTS.md (the lines of a trace, what makes one illegal)
+
+Example: lockup check --explain examples/illegal_trace.txt";
 
 /// What stands below the options of `export`.
 pub const EXPORT: &str = "\

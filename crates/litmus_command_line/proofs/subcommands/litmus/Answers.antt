@@ -5,4 +5,5 @@ returns c =
     let step_1 = c.and-command.ensures _ _ c.begin-command.ensures c.file.ensures in
     let step_2 = c.and-command-2.ensures _ _ step_1 c.number_or.ensures in
     let step_3 = c.and-command-3.ensures _ _ step_2 c.number_or-2.ensures in
-    c.and.ensures _ _ step_3 c.flag.ensures
+    let step_4 = c.and-command-4.ensures _ _ step_3 c.flag.ensures in
+    c.and.ensures _ _ step_4 c.flag-2.ensures

@@ -1,2 +1,3 @@
 pub mod Chart
 pub mod Fault
+pub mod LineCount

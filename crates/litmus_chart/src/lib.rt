@@ -1,7 +1,7 @@
 //! Draws a script's run as a sequence diagram, in Mermaid's words, or one line of it as a space-time diagram, in SVG.
 //!
 //! [`run_chart`] and [`run_svg`] play a script on a machine, and look before each call at what it can change: the
-//! message in front of its channel, and the lines as they are.
+//! message in front of its channel, and the lines as they are. [`line_count`] is how many lines there are to draw.
 //!
 //! - `chart` draws the commands, `picture` the messages and the changes of lines, of which `names` keeps those asked
 //!   for;
@@ -12,7 +12,7 @@
 #![tactic(auto)]
 
 pub use chart::run_chart;
-pub use svg::run_svg;
+pub use svg::{line_count, run_svg};
 
 mod arrow;
 mod chart;

@@ -2,8 +2,9 @@
 ghost use Rattle.std.specs.Prelude.{◌≡◌, ◌<◌, ◌⊎◌, IfErr, IfOk};
 ghost use Rattle.std.specs.Str.Lines.{lines};
 ghost use Rattle.litmus_chart.specs.Fault.{IsChartFault, ChartStopsAt};
+ghost use Rattle.litmus_chart.specs.LineCount.{IsLineCount};
 ghost use Rattle.litmus_script.specs.Play.{IsOfRun};
-ghost use Rattle.litmus_script.specs.Script.{commands_of};
+ghost use Rattle.litmus_script.specs.Script.{IsNotConfigured, commands_of};
 ghost use Rattle.litmus_text.specs.Command.{HasCore, IsInRange};
 ghost use Rattle.litmus_text.specs.Statement.{statements_from};
 
@@ -11,7 +12,7 @@ use super::arrow::{Participant, receiver};
 use super::drawing::write_drawing;
 use super::sends::Sends;
 use super::space_time::{SpaceTime, What};
-use address_map::{Checked, CoreId, LineAddr, Request};
+use address_map::{Checked, Config, CoreId, LineAddr, Request};
 use litmus_script::{
     Commands, Deliverer, Issued, Machine, Player, Script, TextWriter, pump_slices, written,
 };
@@ -39,6 +40,17 @@ pub fn run_svg<W: Write>(
         None => draw(&space, out)?,
     }
     Ok(0)
+}
+
+/// How many lines the machine of a script has.
+pub fn line_count(alloc: Global, input: &[u8]) -> Result<u64, TextFault>
+    ensures count { IfOk result (IsLineCount (statements_from 0 (lines input.now))) }
+    ensures fault { IfErr result (IsNotConfigured (statements_from 0 (lines input.now))) }
+{
+    match Script::read(alloc, input)? {
+        Some(script) => Ok(script.config.lines() as u64),
+        None => Ok(Config::new(alloc).lines),
+    }
 }
 
 fn draw<W: Write>(space: &SpaceTime, out: &mut W) -> Result<(), TextFault>

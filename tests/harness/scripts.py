@@ -42,3 +42,9 @@ def files_of_cases(kind: str) -> dict[str, str]:
     among them."""
     parts = {name: case.files.get(kind) for name, case in all_cases().items()}
     return {name: part.text() for name, part in parts.items() if part and part.how != "by bash"}
+
+
+def remark_of(test: str) -> str:
+    """What is said of a litmus test that ran, on standard error: that nothing is forbidden, where no line of it is `forbid`."""
+    forbids = any(line.split()[:1] == ["forbid"] for line in test.splitlines())
+    return "" if forbids else "lockup: nothing is forbidden: the test has no line 'forbid'\n"

@@ -168,3 +168,14 @@ def test_the_chart_of_the_tutorial() -> None:
     shown = re.findall(r"^```mermaid\n(.*?)^```$", read(ROOT / "docs/TUTORIAL.md"), re.M | re.S)
     script = files_of_cases("text")["chart_of_a_write_miss"]
     same("docs/TUTORIAL.md", lockup("chart", "-", text=script).out, "".join(shown))
+
+
+def test_the_style_of_a_picture() -> None:
+    """What is in flight is dashed; a reader's dark system gets a dark ground, and print black arrows."""
+    picture = lockup("chart", "--svg", "-", text="issue 0 0 load 0\n").out
+    style = re.search(r"<style>\n(.*?)</style>", picture, re.S)[1]
+    blocks = dict(re.findall(r"^@media (.+?)\{\n(.*?)^\}$", style, re.M | re.S))
+    want(re.search(r"^\.flight\{stroke-dasharray:\d+ \d+\}$", style, re.M), "what is in flight isn't dashed")
+    ground = re.search(r"^svg\{background:#(..)(..)(..);", blocks["(prefers-color-scheme:dark)"])
+    want(sum(int(part, 16) for part in ground.groups()) < 3 * 64, "the ground isn't dark")
+    want(".req,.fwd,.data,.ack,.home{stroke:#000}" in blocks["print"], "arrows aren't black in print")

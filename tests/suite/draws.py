@@ -13,6 +13,7 @@ what the program does.
 - The turns of a thread: a test whose one thread needs no turns but those that are drawn is stuck in
   the first round that draws more of them than the limit. So is one whose thread is another core's.
 """
+import json
 import re
 import tempfile
 from pathlib import Path
@@ -20,6 +21,7 @@ from typing import Iterator
 
 from harness import ROOT, Ran, each, lockup, read, same, seconds, want, write
 from harness.generator import MASK, Generator
+from harness.scripts import remark_of
 
 FOLDER = ROOT / "examples/litmus"
 PROGRAMS = ROOT / "examples/programs"
@@ -223,7 +225,7 @@ def test_a_walk_of_more_than_a_million_moves() -> None:
     text = f"lockup-litmus 1\ncores 64\nlines 1\nrounds 1\n{threads}"
     cut, whole = ran_on(text, "walk", "--limit", "1000000"), ran_on(text, "walk")
     same("a million moves", (1, "gave up round 0 after 1000000 moves\n", ""), (cut.status, cut.out, cut.err))
-    same("all of them", (0, "       1 seed 1\nforbidden 0\n", ""), (whole.status, whole.out, whole.err))
+    same("all of them", (0, "       1 seed 1\nforbidden 0\n", remark_of(text)), (whole.status, whole.out, whole.err))
 
 
 def test_limits() -> None:
@@ -239,7 +241,7 @@ def test_limits() -> None:
 
 def test_the_last_seeds() -> None:
     ran = lockup("walk", FOLDER / "mp.txt", "--rounds", "40", "--seed", str(MASK))
-    same("status and error", (0, ""), (ran.status, ran.err))
+    same("status and error", (0, remark_of(read(FOLDER / "mp.txt"))), (ran.status, ran.err))
     seeds = {int(row.split()[-1]) for row in ran.out.splitlines()[:-1]}
     goes_on = MASK in seeds and any(seed < 39 for seed in seeds) and seeds <= {MASK, *range(39)}
     want(goes_on, f"seeds behind the last: {sorted(seeds)}")
@@ -278,7 +280,10 @@ def test_turns(_: str, seed: int, core: int, limit: int) -> None:
     text = f"lockup-litmus 2\ncores {core + 1}\nrounds {ROUNDS}\nmovers 0\nthread {core}\n" + "evict 0\n" * STEPS
     wanted = f"{ROUNDS:8}\nforbidden 0\n" if stuck is None else f"stuck round {stuck}\n"
     ran = ran_on(text, "litmus", "--seed", str(seed), "--limit", str(limit))
-    same("status, output and error", (int(stuck is not None), wanted, ""), tuple(ran))
+    remark = remark_of(text) if stuck is None else ""
+    same("status, output and error", (int(stuck is not None), wanted, remark), tuple(ran))
+    value = json.loads(ran_on(text, "litmus", "--json", "--seed", str(seed), "--limit", str(limit)).out)
+    same("as JSON", stuck, value.get("stuck_round"))
 
 
 def test_turns_tell_enough() -> None:

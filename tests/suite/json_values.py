@@ -7,7 +7,7 @@ from pathlib import Path
 
 from harness import ROOT, Different, each, lockup, read, same, want, write
 from harness.schema import faults, fits
-from harness.scripts import COMMANDS
+from harness.scripts import COMMANDS, remark_of
 from suite.programs import unused
 
 EXAMPLES = ROOT / "examples"
@@ -144,8 +144,10 @@ def rows_of(value: dict) -> list[str]:
 
 @each(lambda: names(EXAMPLES / "litmus"))
 def test_walk(name: str) -> None:
-    words = ("walk", EXAMPLES / f"litmus/{name}.txt", "--rounds", "50", "--seed", "3")
-    same("outcomes", lockup(*words).out.splitlines(), rows_of(value_of("walk", *words)))
+    file = EXAMPLES / f"litmus/{name}.txt"
+    words = ("walk", file, "--rounds", "50", "--seed", "3")
+    value = value_of("walk", *words, err=remark_of(read(file)))
+    same("outcomes", lockup(*words).out.splitlines(), rows_of(value))
 
 
 def test_walk_with_counters() -> None:
@@ -160,7 +162,8 @@ def test_walk_with_counters() -> None:
 
 @each(lambda: ["sb", "mp", "iriw"])
 def test_litmus(name: str) -> None:
-    value = value_of("litmus", "litmus", EXAMPLES / f"litmus/{name}.txt")
+    file = EXAMPLES / f"litmus/{name}.txt"
+    value = value_of("litmus", "litmus", file, err=remark_of(read(file)))
     table = lockup("litmus", EXAMPLES / f"litmus/{name}.txt").out.splitlines()
     same("rounds", sum(int(row.split()[0]) for row in table[:-1]), sum(row["rounds"] for row in value["outcomes"]))
     same("names", [cell.split("=")[0] for cell in table[0].split()[1:]], value["names"])
@@ -194,7 +197,7 @@ def test_table(_: str, table: str, option: str) -> None:
 
 
 def test_check() -> None:
-    same("illegal", {"legal": False, "entry": 1, "reason": "reply"},
+    same("illegal", {"legal": False, "entry": 1, "reason": "reply", "line": 5, "expected": "5", "written_by": 0},
          value_of("check", "check", EXAMPLES / "illegal_trace.txt", status=1))
     with tempfile.TemporaryDirectory() as room:
         trace = write(f"{room}/trace.txt", "lockup-trace 1\nentry 0 0 0 add 0 5 0 0\nentry 0 1 0 load 0 5 1\n")

@@ -12,6 +12,7 @@ from pathlib import Path
 from typing import Callable
 
 from harness import each, is_plain, lockup, same, seconds
+from harness.scripts import remark_of
 
 Rows = list[tuple[str, str]]
 Text = tuple[str, list[bytes], int, bytes, bytes]
@@ -163,13 +164,13 @@ def long_tests() -> list[Text]:
     forbidden, _ = many(b"forbid" + b" a=18446744073709551615" * 16 + b"\n")
     begin, end, out = b"lockup-litmus 2\n", b"rounds 1\nthread 0\nload 0 a\n", b"       1 a=0 seed 1\nforbidden 0\n"
     steps = b"cores 64\nthread 63\n" + b"store 127 1\n" * 4096
-    none = b"       1 seed 1\nforbidden 0\n"
+    none, remark = b"       1 seed 1\nforbidden 0\n", remark_of("").encode()
     return [
-        ("settings", [begin, settings_again, end], 0, out, b""),
+        ("settings", [begin, settings_again, end], 0, out, remark),
         ("outcomes", [begin, end, forbidden], 0, out, b""),
-        ("blanks", [begin, end.strip(), b" " * LONG], 0, out, b""),
+        ("blanks", [begin, end.strip(), b" " * LONG], 0, out, remark),
         ("a long name", [begin, end.strip(), b"a" * LONG], 2, b"", b"lockup: line 4: not a command\n"),
-        ("steps", [begin, steps], 0, none, b""),
+        ("steps", [begin, steps], 0, none, remark),
         ("a step more", [begin, steps, b"settle"], 2, b"", b"lockup: line 4100: out of range\n"),
     ]
 

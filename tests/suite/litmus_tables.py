@@ -11,6 +11,7 @@ import re
 import tempfile
 
 from harness import ROOT, Ran, each, lockup, read, same, seconds, want, write
+from harness.scripts import remark_of
 
 FOLDER = ROOT / "examples/litmus"
 ROUNDS = 10000
@@ -19,9 +20,10 @@ CALLS = ("issue", "evict", "deliver", "pump", "hand", "word")
 Rows = dict[str, tuple[int, str | None]]
 
 
-def table(ran: Ran, seeds: bool) -> tuple[Rows, int]:
-    """The rows of a table, as outcome to (rounds, seed), and how many rounds were forbidden."""
-    want(not ran.err and ran.status in (0, 1), f"status {ran.status}: {ran.err}{ran.out[:200]}")
+def table(ran: Ran, seeds: bool, text: str) -> tuple[Rows, int]:
+    """The rows of a test's table, as outcome to (rounds, seed), and how many rounds were forbidden."""
+    want(ran.status in (0, 1), f"status {ran.status}: {ran.err}{ran.out[:200]}")
+    same("remark", remark_of(text), ran.err)
     *lines, last = ran.out.splitlines()
     rows: Rows = {}
     for line in lines:
@@ -100,7 +102,7 @@ def names() -> list[str]:
 @each(names)
 def test_schedules(name: str) -> None:
     test = LitmusTest(name)
-    rows, forbidden = table(lockup("walk", test.path, "--rounds", str(ROUNDS)), True)
+    rows, forbidden = table(lockup("walk", test.path, "--rounds", str(ROUNDS)), True, read(test.path))
     same("outcomes that aren't allowed", [], sorted(set(rows) - set(test.wanted)))
     same("rounds, and forbidden ones", (ROUNDS, 0), (rounds_of(rows), forbidden))
     for outcome, (_, seed) in rows.items():
@@ -115,7 +117,7 @@ def test_schedules(name: str) -> None:
 @each(names)
 def test_threads(name: str) -> None:
     test = LitmusTest(name)
-    rows, forbidden = table(lockup("litmus", test.path), False)
+    rows, forbidden = table(lockup("litmus", test.path), False, read(test.path))
     same("outcomes that aren't allowed", [], sorted(set(rows) - set(test.wanted)))
     same("rounds, and forbidden ones", (test.rounds(), 0), (rounds_of(rows), forbidden))
 
@@ -136,7 +138,7 @@ def test_text(_: str, text: str, allowed: set[str], rounds: int, forbidden: int)
     """On threads and on schedules its outcomes are among these, and its rounds add up."""
     for verb in ("litmus", "walk"):
         with tempfile.TemporaryDirectory() as room:
-            rows, came = table(lockup(verb, write(f"{room}/test.txt", text)), verb == "walk")
+            rows, came = table(lockup(verb, write(f"{room}/test.txt", text)), verb == "walk", text)
         want(rows and set(rows) <= allowed, f"{verb} gives {rows}")
         same(f"rounds of {verb}, and forbidden ones", (rounds, forbidden), (rounds_of(rows), came))
 
@@ -171,5 +173,6 @@ def test_page_of_standard_input() -> None:
 def test_what_the_tutorial_shows() -> None:
     tutorial = read(ROOT / "docs/TUTORIAL.md")
     script = lockup("walk", FOLDER / "mp.txt", "--seed", "10", "--script").out
-    for shown in lockup("walk", FOLDER / "mp.txt", "--rounds", "1000").out, script[script.index("#"):]:
+    walked = lockup("walk", FOLDER / "mp.txt", "--rounds", "1000")
+    for shown in walked.out + walked.err, script[script.index("#"):]:
         want(f"\n{shown}```\n" in tutorial, f"docs/TUTORIAL.md doesn't show this:\n{shown}")

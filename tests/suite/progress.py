@@ -12,7 +12,7 @@ import tempfile
 
 from harness import each, lockup, program, same, write
 
-TEST = "lockup-litmus 1\nrounds 1500\nthread 0\nload 0 a\n"
+TEST = "lockup-litmus 1\nrounds 1500\nthread 0\nload 0 a\nforbid a=1\n"
 TOLD = b"500 of 1500 rounds\r1000 of 1500 rounds\r"
 
 

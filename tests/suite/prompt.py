@@ -80,7 +80,7 @@ def test_an_invalid_script() -> None:
 def test_a_missing_script() -> None:
     with tempfile.TemporaryDirectory() as room:
         ran = answers(room, "state 0\n", "missing")
-        same("status, answers and error", (2, "", "lockup: cannot read missing\n"), tuple(ran))
+        same("status, answers and error", (2, "", "lockup: cannot read missing   there is no such file\n"), tuple(ran))
 
 
 def test_an_answer_at_once() -> None:

@@ -14,6 +14,7 @@ load 8 a
 thread 1
 store 8 1
 load 0 b
+forbid b=2
 """
 MOVERS = [("one", "", 1), *((str(count), f"movers {count}\n", count) for count in range(5))]
 

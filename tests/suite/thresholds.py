@@ -16,6 +16,7 @@ import tempfile
 from itertools import product
 
 from harness import Ran, each, is_plain, lockup, same, seconds, want, write
+from harness.scripts import remark_of
 
 LINES, WORDS, TAGS = 65536, 8, 64
 MASK = (1 << 64) - 1
@@ -96,8 +97,9 @@ def test_most_accesses() -> None:
 @each(lambda: [("litmus", 2500), ("walk", 10_000)])
 def test_rounds(verb: str, rounds: int) -> None:
     """10,000 rounds are the most that a test may have. Two cores add to a word, so just one of them finds 0."""
-    ran = ran_on(f"lockup-litmus 1\ncores 2\nrounds {rounds}\nmovers 0\nthread 0\nadd 0 1 a\nthread 1\nadd 0 2 b\n", verb)
-    same("status and error", (0, ""), (ran.status, ran.err))
+    text = f"lockup-litmus 1\ncores 2\nrounds {rounds}\nmovers 0\nthread 0\nadd 0 1 a\nthread 1\nadd 0 2 b\n"
+    ran = ran_on(text, verb)
+    same("status and error", (0, remark_of(text)), (ran.status, ran.err))
     *rows, last = [line.split() for line in ran.out.splitlines()]
     same("forbidden", ["forbidden", "0"], last)
     want({tuple(row[1:3]) for row in rows} <= {("a=0", "b=1"), ("a=2", "b=0")}, f"outcomes: {rows}")
@@ -110,7 +112,7 @@ def test_a_round_of_all_steps() -> None:
     text += "store 0 5\n" * 4093 + "load 0 c\n"
     for verb, seed in ("litmus", ""), ("walk", " seed 1"):
         ran = ran_on(text, verb)
-        same(verb, (0, f"       3 a=0 b=1 c=5 [8]=2{seed}\nforbidden 0\n", ""), tuple(ran))
+        same(verb, (0, f"       3 a=0 b=1 c=5 [8]=2{seed}\nforbidden 0\n", remark_of(text)), tuple(ran))
 
 
 def test_entries() -> None:

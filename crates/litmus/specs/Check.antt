@@ -22,29 +22,37 @@ text_of_reason reasons.Reply = codes "reply"
 text_of_reason reasons.Order = codes "order"
 text_of_reason reasons.Since = codes "since"
 
--- the line that tells the verdict
-abbrev pub text_of_verdict : Verdict → List ℕ
-text_of_verdict (verdicts.Legal entries) = codes "legal " ++ (decimal entries ++ codes " entries\n")
-text_of_verdict (verdicts.Illegal entry reason) =
-    codes "illegal entry " ++ (decimal entry ++ (codes ": " ++ (text_of_reason reason ++ codes "\n")))
+-- the line that tells the verdict, and behind it what is told of an entry at fault
+abbrev pub text_of_verdict : Verdict → List ℕ → List ℕ
+text_of_verdict (verdicts.Legal entries) more = codes "legal " ++ (decimal entries ++ codes " entries\n")
+text_of_verdict (verdicts.Illegal entry reason) more =
+    codes "illegal entry "
+    ++ (decimal entry ++ (codes ": " ++ (text_of_reason reason ++ (more ++ codes "\n"))))
 
 -- .. and the value of JSON that does
-abbrev pub json_of_verdict : Verdict → List ℕ
-json_of_verdict (verdicts.Legal entries) = codes "{\"legal\":true,\"entries\":" ++ (decimal entries ++ codes "}\n")
-json_of_verdict (verdicts.Illegal entry reason) =
+abbrev pub json_of_verdict : Verdict → List ℕ → List ℕ
+json_of_verdict (verdicts.Legal entries) more =
+    codes "{\"legal\":true,\"entries\":" ++ (decimal entries ++ codes "}\n")
+json_of_verdict (verdicts.Illegal entry reason) more =
     codes "{\"legal\":false,\"entry\":"
-    ++ (decimal entry ++ (codes ",\"reason\":\"" ++ (text_of_reason reason ++ codes "\"}\n")))
+    ++ (decimal entry
+    ++ (codes ",\"reason\":\"" ++ (text_of_reason reason ++ (codes "\"" ++ (more ++ codes "}\n")))))
 
-abbrev pub told_of : Bool → Verdict → List ℕ
-told_of false verdict = text_of_verdict verdict
-told_of true verdict = json_of_verdict verdict
+abbrev pub told_of : Bool → Verdict → List ℕ → List ℕ
+told_of false verdict more = text_of_verdict verdict more
+told_of true verdict more = json_of_verdict verdict more
 
 -- the text is a trace, what it comes to is printed, and the status is that of it
-pub record IsChecked (text : List ℕ) (json : Bool) (before after : Option (List ℕ)) (status : ℕ) : Type 0 where
+pub record IsChecked (text : List ℕ) (json : Bool) (more : List ℕ) (before after : Option (List ℕ))
+    (status : ℕ) : Type 0 where
   pub verdict : Verdict
   pub judged : IsJudged text verdict
-  pub printed : Appends before after (told_of json verdict)
+  pub printed : Appends before after (told_of json verdict more)
   pub is : status ≡ status_of verdict
+
+-- .. with something behind it, where it isn't legal: what was expected isn't said here
+abbrev pub IsExplained : List ℕ → Bool → Option (List ℕ) → Option (List ℕ) → ℕ → Type 0
+IsExplained text json before after status = (more : List ℕ) × IsChecked text json more before after status
 
 -- Why a trace wasn't judged: there was no memory, its verdict couldn't be written, or the text is no trace. Then the
 -- fault names the first line at fault and says what is wrong with it.

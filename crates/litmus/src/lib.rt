@@ -3,9 +3,9 @@
 //! - [`read_line`] reads what the program's own words ask for.
 //! - [`run_script`] runs a script, [`run_explained`] tells what happened behind each answer, [`run_beside`] prints each
 //!   answer beside its command, and [`run_json`] each command as a value of JSON. [`run_chart`] draws the run as a
-//!   sequence diagram, [`run_svg`] one line of it over time, [`run_page`] writes it as a page for a browser, which with
-//!   [`run_page_with`] can be played, and [`run_waves`] as waves for a wave viewer. [`expected`] tells what a line at
-//!   fault was to say.
+//!   sequence diagram, [`run_svg`] one line of it over time (of those that the machine has, [`line_count`]),
+//!   [`run_page`] writes it as a page for a browser, which with [`run_page_with`] can be played, and [`run_waves`] as
+//!   waves for a wave viewer.
 //! - [`run_trace`] writes a model checker's trace as a script.
 //! - [`run_prompt`] answers a script's lines one by one, and gives a [`Saver`] the script so far.
 //! - [`run_test`] tests a script against the answers that it wants.
@@ -17,18 +17,19 @@
 //!   [`write_schedule`] prints that schedule as a script, and [`page_schedule`] as that script's page. [`run_sweep`]
 //!   runs them once for each row of a [`Sweep`], side by side, and prints the rows. [`write_workload`] prints the
 //!   programs of a workload.
-//! - [`check_trace`] judges a trace, and answers its [`Verdict`]; [`run_check`] writes what that comes to, and
-//!   [`run_check_json`] as JSON.
+//! - [`check_trace`] judges a trace, and answers its [`Verdict`]; [`run_check`] writes what that comes to,
+//!   [`run_check_explained`] with what was expected of an entry at fault, and [`run_check_json`] both as JSON.
 //! - [`run_table`] prints a table of the protocol with its legend, [`run_table_rows`] its rows as values of JSON, and
 //!   [`run_export`] the protocol of one line as a model.
 //!
 //! Running, drawing, reading and walking are crates of their own. What is wrong with a text, or why it can't be run or
-//! what comes of it can't be written, is a [`TextFault`].
+//! what comes of it can't be written, is a [`TextFault`]; [`hint`] says what a reader of it may want to know.
 #![tactic(auto)]
 
-pub use check::{run_check, run_check_json};
+pub use check::{run_check, run_check_explained, run_check_json};
 pub use export::run_export;
-pub use litmus_chart::{run_chart, run_svg};
+pub use hints::{TextKind, hint};
+pub use litmus_chart::{line_count, run_chart, run_svg};
 pub use litmus_command_line::{
     CommandLine, ModelCores, ScriptForm, Table, read_line, read_settings,
 };
@@ -42,7 +43,7 @@ pub use program_generate::{GenerateFault, Size, Workload, write_workload};
 pub use program_run::{Form, run_programs, write_schedule};
 pub use program_sweep::{RowFault, RowForm, Seeds, Setting, Sweep, SweepFault, run_sweep};
 pub use script_beside::run_beside;
-pub use script_explained::{expected, run_explained};
+pub use script_explained::run_explained;
 pub use script_json::run_json;
 pub use script_page::{PageExtras, run_page, run_page_with};
 pub use script_prompt::{Saver, run_prompt};
@@ -54,7 +55,9 @@ pub use trace_check::{Reason, Verdict, check_trace};
 
 mod check;
 mod export;
+mod hints;
 mod legend;
 mod pages;
 mod table;
 mod tests;
+mod wrong_entry;

@@ -10,11 +10,11 @@ use clap::Error;
 use clap::error::ErrorKind;
 use head::head_of;
 use litmus::{
-    CommandLine, Form, OutcomeForm, PageExtras, ScriptForm, Seeds, Size, SweepFault, expected,
-    page_schedule, page_walk, read_line, run_beside, run_chart, run_check, run_check_json,
-    run_explained, run_export, run_json, run_litmus_as, run_page_with, run_programs, run_script,
-    run_svg, run_table, run_table_rows, run_test, run_trace, run_walk, run_waves, write_schedule,
-    write_walk,
+    CommandLine, Form, OutcomeForm, PageExtras, ScriptForm, Seeds, Size, SweepFault, TextKind,
+    hint, line_count, page_schedule, page_walk, read_line, run_beside, run_chart, run_check,
+    run_check_explained, run_check_json, run_explained, run_export, run_json, run_litmus_as,
+    run_page_with, run_programs, run_script, run_svg, run_table, run_table_rows, run_test,
+    run_trace, run_walk, run_waves, write_schedule, write_walk,
 };
 use litmus_text::TextFault;
 use painted::Painted;
@@ -29,6 +29,7 @@ use std::rt::{Env, Files};
 use std::sync::Wait;
 use std::thread::Threads;
 use std::{env, fs, io};
+use unforbidden::tell_unforbidden;
 use unused::tell_unused;
 
 mod head;
@@ -36,6 +37,7 @@ mod painted;
 mod progress;
 mod prompt;
 mod rows;
+mod unforbidden;
 mod unused;
 mod workload;
 
@@ -44,6 +46,9 @@ const REFUSED: u8 = 2;
 
 /// What is said of a script to be tested that wants no answer.
 const NO_TEST: &str = "no answer is wanted: this is no test";
+
+/// How an answer is wanted.
+const HOW_TO_WANT: &str = "a wanted answer follows '=' at the end of its command's line";
 
 /// The name of a file that stands for standard input.
 const STANDARD_INPUT: &str = "-";
@@ -155,7 +160,38 @@ where
     };
     match read(rt, file) {
         Ok(input) => answer_to(rt, line, input.as_slice(), people),
-        Err(error) => report(rt, people, &error, format_args!("cannot read {file}")),
+        Err(error) => report_unread(rt, people, line, file, &error),
+    }
+}
+
+/// Reports that a file can't be read, and where errors are explained also why.
+fn report_unread<R: Eprint>(
+    rt: &R,
+    people: People,
+    line: CommandLine<'_>,
+    file: &str,
+    error: &io::Error,
+) -> u8 {
+    match why_unread(line, error) {
+        Some(why) => report(
+            rt,
+            people,
+            error,
+            format_args!("cannot read {file}   {why}"),
+        ),
+        None => report(rt, people, error, format_args!("cannot read {file}")),
+    }
+}
+
+/// Says why a file can't be read, where errors are explained.
+fn why_unread(line: CommandLine<'_>, error: &io::Error) -> Option<&'static str> {
+    explained_kind(line)?;
+    match error.kind() {
+        io::ErrorKind::NotFound => Some("there is no such file"),
+        io::ErrorKind::IsADirectory => Some("it is a folder"),
+        io::ErrorKind::PermissionDenied => Some("permission is denied"),
+        io::ErrorKind::NotADirectory => Some("a part of its path is no folder"),
+        _ => None,
     }
 }
 
@@ -165,13 +201,7 @@ where
 {
     match print_answers(rt, line, input, people) {
         Ok(status) => {
-            match line {
-                CommandLine::Run { outstanding, .. } => {
-                    tell_unused(rt, people, input, outstanding);
-                }
-                CommandLine::Test { .. } if status == REFUSED => complain(rt, people, NO_TEST),
-                _ => {}
-            }
+            remark(rt, people, line, input, status);
             status
         }
         Err(fault) => {
@@ -181,31 +211,83 @@ where
     }
 }
 
-/// Complains of a fault, and where answers are explained or drawn, of what the line at fault was expected to say.
+/// Says of a run that ended with this status what its output doesn't.
+fn remark<R>(rt: &R, people: People, line: CommandLine<'_>, input: &[u8], status: u8)
+where
+    R: AllocGlobal + Eprint,
+{
+    match line {
+        CommandLine::Run { outstanding, .. } => tell_unused(rt, people, input, outstanding),
+        CommandLine::Test { explain: true, .. } if status == REFUSED => {
+            complain(rt, people, format_args!("{NO_TEST}   {HOW_TO_WANT}"));
+        }
+        CommandLine::Test { .. } if status == REFUSED => complain(rt, people, NO_TEST),
+        CommandLine::Chart {
+            line: Some(line),
+            ..
+        } if status == REFUSED => complain_of_line(rt, people, line, input),
+        CommandLine::Litmus { .. }
+        | CommandLine::Walk {
+            script: false,
+            page: false,
+            ..
+        } if status == 0 => tell_unforbidden(rt, people, input),
+        _ => {}
+    }
+}
+
+/// Complains that the machine of a script lacks a line.
+fn complain_of_line<R: AllocGlobal + Eprint>(rt: &R, people: People, line: u64, input: &[u8]) {
+    match line_count(rt.alloc(), input) {
+        Ok(count) => {
+            let last = count.saturating_sub(1);
+            complain(
+                rt,
+                people,
+                format_args!("--line {line}: the machine has lines 0 to {last}"),
+            );
+        }
+        Err(fault) => complain(rt, people, fault),
+    }
+}
+
+/// Complains of a fault, and where errors are explained says what its reader may want to know.
 fn complain_of<R>(rt: &R, people: People, line: CommandLine<'_>, input: &[u8], fault: TextFault)
 where
     R: AllocGlobal + Eprint,
 {
-    if !is_explained(line) {
+    let Some(kind) = explained_kind(line) else {
         return complain(rt, people, fault);
-    }
-    match expected(rt.alloc(), input, fault) {
-        Some(misfit) => complain(rt, people, format_args!("{fault}   {misfit}")),
+    };
+    match hint(rt.alloc(), kind, input, fault) {
+        Some(hint) => complain(rt, people, format_args!("{fault}   {hint}")),
         None => complain(rt, people, fault),
     }
 }
 
-/// Whether answers are explained, or drawn.
-const fn is_explained(line: CommandLine<'_>) -> bool {
-    matches!(
-        line,
+/// The kind of text that a command line reads, where errors are explained.
+const fn explained_kind(line: CommandLine<'_>) -> Option<TextKind> {
+    match line {
         CommandLine::Script {
             form: ScriptForm::Answers { explain: true, .. } | ScriptForm::Beside { explain: true },
             ..
-        } | CommandLine::Try { .. }
-            | CommandLine::Chart { .. }
-            | CommandLine::Page { .. }
-    )
+        }
+        | CommandLine::Try { .. }
+        | CommandLine::Chart { .. }
+        | CommandLine::Page { .. } => Some(TextKind::Script),
+        CommandLine::Test { explain: true, .. } => Some(TextKind::Exercise),
+        CommandLine::Litmus { explain: true, .. } | CommandLine::Walk { explain: true, .. } => {
+            Some(TextKind::LitmusTest)
+        }
+        CommandLine::Run { explain: true, .. } => Some(TextKind::Programs),
+        CommandLine::Check { explain: true, .. } => Some(TextKind::Trace),
+        _ => None,
+    }
+}
+
+/// Whether answers tell what moved and what is blocked, which have colors.
+const fn tells_moves(line: CommandLine<'_>) -> bool {
+    matches!(explained_kind(line), Some(TextKind::Script))
 }
 
 /// The file of the text that a command line names.
@@ -249,7 +331,7 @@ where
     let Ok(out) = BufWriter::new(rt.alloc(), io::writer(rt)) else {
         return Err(TextFault::NoMemory);
     };
-    let mut out = Painted::new(out, people.color_answers && is_explained(line));
+    let mut out = Painted::new(out, people.color_answers && tells_moves(line));
     let ran = write_answers(rt, line, input, people, &mut out);
     match out.flush() {
         Ok(()) => ran,
@@ -279,7 +361,7 @@ where
             line: None,
             ..
         } => run_chart(alloc, input, out),
-        CommandLine::Chart { line, .. } => run_svg(alloc, input, line, out),
+        CommandLine::Chart { line, .. } => write_picture(alloc, input, line, out),
         CommandLine::Page {
             branches,
             guess,
@@ -343,6 +425,7 @@ where
         // These are printed by `rows::run` and `workload::run`.
         CommandLine::Sweep { .. } | CommandLine::Generate { .. } => Ok(REFUSED),
         CommandLine::Check { json: true, .. } => run_check_json(alloc, input, out),
+        CommandLine::Check { explain: true, .. } => run_check_explained(alloc, input, out),
         CommandLine::Check { .. } => run_check(alloc, input, out),
         CommandLine::Table {
             table,
@@ -360,6 +443,21 @@ where
             closed,
         } => run_export(cores, exclusive, closed, out),
     }
+}
+
+/// Draws this line of a script's run, or the one that is named first. It is refused where the machine lacks the line.
+fn write_picture<W: Write>(
+    alloc: Global,
+    input: &[u8],
+    line: Option<u64>,
+    out: &mut W,
+) -> Result<u8, TextFault> {
+    if let Some(line) = line {
+        if line >= line_count(alloc, input)? {
+            return Ok(REFUSED);
+        }
+    }
+    run_svg(alloc, input, line, out)
 }
 
 /// What a page has besides the run.

@@ -63,6 +63,16 @@ def test_only_a_closed_model_wants_misses_completed() -> None:
         same(f"closed: {words}", 1, model(*words, "--closed").count("liveness "))
 
 
+@each(lambda: [(f"{cores} {exclusive} {closed}", cores, exclusive, closed)
+               for cores in (2, 3, 4) for exclusive in ("", "--exclusive") for closed in ("", "--closed")])
+def test_options(_: str, cores: int, exclusive: str, closed: str) -> None:
+    """Each option is heeded beside each other."""
+    text = model(str(cores), *f"{exclusive} {closed}".split())
+    head = re.search(r"^const -- exclusive (on|off)\n  CORES: (\d+);\n  SETS: (\d+);$", text, re.M)
+    same("head", ("on" if exclusive else "off", str(cores), str(2 ** cores)), head and head.groups())
+    same("what is to be completed", int(bool(closed)), text.count("liveness "))
+
+
 def in_lines(old: str, new: str) -> Edit:
     """Replaces what a pattern finds, once in each line."""
     return lambda text: "".join(re.sub(old, new, line, count=1, flags=re.S) for line in text.splitlines(keepends=True))

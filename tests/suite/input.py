@@ -31,6 +31,20 @@ def test_trace(name: str) -> None:
         judge(write(f"{room}/trace", files_of_cases("trace")[name]), "check")
 
 
+@each(lambda: sorted(path.stem for path in (ROOT / "examples/exercises").glob("*.txt")))
+def test_exercise(name: str) -> None:
+    for words in ("test",), ("test", "--first"):
+        judge(ROOT / f"examples/exercises/{name}.txt", *words)
+
+
+def test_a_file_of_that_name() -> None:
+    """As `./-` it is a file like others."""
+    with tempfile.TemporaryDirectory() as room:
+        write(f"{room}/-", "cores 1\nstate 0\n")
+        answer = "line 0 dir I owner - sharers - home 0 0 0 0 0 0 0 0 cores I\n"
+        same("script ./-", (0, answer, ""), tuple(lockup("script", "./-", text="no command\n", cwd=room)))
+
+
 def test_a_text_in_pieces() -> None:
     """The text is longer than a pipe holds, and its first piece ends in a line."""
     text = b"cores 1\n" + b"state 0\n" * 20000

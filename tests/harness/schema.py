@@ -1,9 +1,12 @@
 """Validates values of JSON against the part of JSON Schema (draft 2020-12) that docs/schema uses."""
+import re
+
 from harness import Different
 
 TYPES = {"object": dict, "array": list, "string": str, "integer": int, "boolean": bool, "null": type(None)}
-KNOWN = {"$schema", "title", "description", "type", "properties", "required", "items", "enum", "additionalProperties",
-         "minimum", "oneOf", "$defs", "$ref"}
+# `version` is our own: a keyword that JSON Schema doesn't know says nothing of values
+KNOWN = {"$schema", "title", "version", "description", "type", "properties", "required", "items", "enum",
+         "additionalProperties", "minimum", "pattern", "oneOf", "$defs", "$ref"}
 
 
 def is_of(value: object, name: str) -> bool:
@@ -25,8 +28,10 @@ def faults(value: object, schema: dict, at: str = "$", defined: dict | None = No
     if "enum" in schema and not any(value is other or (value == other and type(value) is type(other))
                                     for other in schema["enum"]):
         found.append(f"{at}: {value!r} is none of {schema['enum']}")
-    if "minimum" in schema and value < schema["minimum"]:
+    if "minimum" in schema and is_of(value, "integer") and value < schema["minimum"]:
         found.append(f"{at}: {value!r} is below {schema['minimum']}")
+    if "pattern" in schema and isinstance(value, str) and not re.search(schema["pattern"], value):
+        found.append(f"{at}: {value!r} isn't of the form {schema['pattern']}")
     if isinstance(value, dict):
         found += faults_of_object(value, schema, at, defined)
     if isinstance(value, list):

@@ -1,1 +1,2 @@
 pub mod List
+pub mod Number

@@ -1,15 +1,18 @@
-//! What texts of JSON (RFC 8259) have in common: lists, whose items have commas between them.
+//! What texts of JSON (RFC 8259) have in common: lists, whose items have commas between them, and numbers.
 //!
 //! [`write_comma`] writes what stands before an item. The whole list is `with_commas` of specs/List.antt; the lemmas of
-//! proofs/Commas.antt step through one that is written item by item.
+//! proofs/Commas.antt step through one that is written item by item. A [`Number`] is `number_of` of specs/Number.antt.
 #![tactic(auto)]
 
 ghost use Rattle.std.specs.Prelude.{OnOk};
 ghost use Rattle.std.specs.Fmt.{WritesInCalls};
 ghost use Rattle.json_text.specs.List.{before_text};
 
+pub use number::{Number, is_exact};
 use std::fmt;
 use std::fmt::Write;
+
+mod number;
 
 /// Writes what stands before an item of a list: a comma, but before the first.
 pub fn write_comma<W: Write>(is_first: bool, out: &mut W) -> fmt::Result

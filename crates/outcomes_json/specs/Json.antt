@@ -2,6 +2,7 @@
 use Rattle.std.specs.Prelude.{ℕ, ◌+◌, ◌%◌, ◌^◌, List, [], ◌++◌, Option, None, Some, codes, decimal, map}
 use Rattle.address_map.specs.declared.address.WordAddr.{WordAddr}
 use Rattle.json_text.specs.List.{with_commas}
+use Rattle.json_text.specs.Number.{number_of}
 use Rattle.litmus_outcomes.specs.Table.{RowView}
 use Rattle.litmus_test.specs.declared.test.LitmusTest.{LitmusTest}
 use Rattle.litmus_test.specs.declared.test.NamedReply.{NamedReply}
@@ -11,17 +12,17 @@ abbrev pub name_of : NamedReply → List ℕ
 name_of named = codes "\"" ++ (named.name.now ++ codes "\"")
 
 abbrev pub word_of : WordAddr → List ℕ
-word_of word = decimal word.0
+word_of word = number_of word.0
 
 -- the seed of the first round that had an outcome, where the seed of round 0 is known
 abbrev pub seed_of : Option ℕ → ℕ → List ℕ
 seed_of None first = []
-seed_of (Some seed) first = codes ",\"seed\":" ++ decimal ((seed + first) % 2 ^ 64)
+seed_of (Some seed) first = codes ",\"seed\":" ++ number_of ((seed + first) % 2 ^ 64)
 
 -- an outcome: how many rounds had it, and its values, those of the names and then those of the counters
 abbrev pub outcome_of : Option ℕ → RowView → List ℕ
 outcome_of seed row =
-    codes "{\"rounds\":" ++ (decimal row.rounds ++ codes ",\"values\":[") ++ with_commas (map decimal row.values)
+    codes "{\"rounds\":" ++ (decimal row.rounds ++ codes ",\"values\":[") ++ with_commas (map number_of row.values)
     ++ codes "]" ++ seed_of seed row.first ++ codes "}"
 
 -- the whole value, in one line, where so many rounds had a forbidden outcome

@@ -1,13 +1,14 @@
-ghost use Rattle.std.specs.Prelude.{ℕ, List, OnOk, decimal, map};
+ghost use Rattle.std.specs.Prelude.{ℕ, List, OnOk, map};
 ghost use Rattle.std.specs.Fmt.{WritesInCalls};
 ghost use Rattle.json_text.specs.List.{with_commas};
+ghost use Rattle.json_text.specs.Number.{number_of};
 ghost use Rattle.litmus_outcomes.specs.Forbid.{is_forbidden};
 ghost use Rattle.litmus_outcomes.specs.Table.{IsTableOf};
 ghost use Rattle.outcomes_json.specs.Json.{json_of, name_of, outcome_of, seed_of, word_of};
 ghost use Rattle.std.specs.Prelude.{count_by};
 
 use address_map::WordAddr;
-use json_text::write_comma;
+use json_text::{Number, write_comma};
 use litmus_outcomes::{Outcomes, Row};
 use litmus_test::{LitmusTest, NamedReply};
 use std::fmt::Write;
@@ -96,7 +97,7 @@ fn write_row<W: Write>(row: &Row, seed: Option<u64>, out: &mut W) -> fmt::Result
 
 fn write_values<W: Write>(values: &[u64], out: &mut W) -> fmt::Result
     ensures { OnOk result
-        (WritesInCalls W.write_str_gives out.old (with_commas (map decimal values.now)) out.new) }
+        (WritesInCalls W.write_str_gives out.old (with_commas (map number_of values.now)) out.new) }
 {
     let mut is_first = true;
     for value in values {
@@ -108,8 +109,9 @@ fn write_values<W: Write>(values: &[u64], out: &mut W) -> fmt::Result
 }
 
 fn write_number<W: Write>(number: u64, out: &mut W) -> fmt::Result
-    ensures { OnOk result (WritesInCalls W.write_str_gives out.old (decimal number) out.new) }
+    ensures { OnOk result (WritesInCalls W.write_str_gives out.old (number_of number) out.new) }
 {
+    let number = Number(number);
     write!(out, "{number}")
 }
 
@@ -118,7 +120,7 @@ fn write_seed<W: Write>(seed: Option<u64>, first: u64, out: &mut W) -> fmt::Resu
 {
     match seed {
         Some(seed) => {
-            let seed = seed.wrapping_add(first);
+            let seed = Number(seed.wrapping_add(first));
             write!(out, ",\"seed\":{seed}")
         }
         None => Ok(()),

@@ -2,6 +2,7 @@
 use Rattle.std.specs.Prelude.{ℕ, List, ◌++◌, codes, decimal}
 use Rattle.address_map.specs.declared.request.Op.{Op}
 use Rattle.address_map.specs.declared.request.Op.TheVariants as ops
+use Rattle.json_text.specs.Number.{number_of}
 use Rattle.litmus_text.specs.declared.command.Command.{Command}
 use Rattle.litmus_text.specs.declared.command.Command.TheVariants as commands
 use Rattle.slice_queues_message.specs.Pick.{channel_of, line_of}
@@ -11,10 +12,10 @@ use Rattle.slice_queues_message.specs.declared.channel.Channel.TheVariants as ch
 -- what an access asks for, with its operands
 abbrev pub text_of_op : Op → List ℕ
 text_of_op ops.Load = codes "\"op\":\"load\""
-text_of_op (ops.Store value) = codes "\"op\":\"store\",\"value\":" ++ decimal value
-text_of_op (ops.Add value) = codes "\"op\":\"add\",\"value\":" ++ decimal value
+text_of_op (ops.Store value) = codes "\"op\":\"store\",\"value\":" ++ number_of value
+text_of_op (ops.Add value) = codes "\"op\":\"add\",\"value\":" ++ number_of value
 text_of_op (ops.Cas expect new) =
-    codes "\"op\":\"cas\",\"expect\":" ++ decimal expect ++ codes ",\"value\":" ++ decimal new
+    codes "\"op\":\"cas\",\"expect\":" ++ number_of expect ++ codes ",\"value\":" ++ number_of new
 
 -- a channel, by its class and the cores at it
 abbrev pub text_of_ends : Channel → List ℕ
@@ -42,4 +43,4 @@ text_of_call (commands.Log slice) = codes "{\"name\":\"log\",\"slice\":" ++ deci
 text_of_call commands.Stats = codes "{\"name\":\"stats\"}"
 text_of_call commands.Waiting = codes "{\"name\":\"waiting\"}"
 text_of_call commands.Show = codes "{\"name\":\"show\"}"
-text_of_call (commands.Pump calls) = codes "{\"name\":\"pump\",\"calls\":" ++ decimal calls ++ codes "}"
+text_of_call (commands.Pump calls) = codes "{\"name\":\"pump\",\"calls\":" ++ number_of calls ++ codes "}"

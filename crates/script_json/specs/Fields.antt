@@ -26,7 +26,7 @@ pair_of (Some name) (Some value) = codes "," ++ quoted name ++ codes ":" ++ valu
 
 -- an answer of one word, which is a word's value where it is a number
 abbrev pub lone_of : List ℕ → List ℕ → List ℕ
-lone_of text first = if is_number first then codes ",\"value\":" ++ first else status_of text
+lone_of text first = if is_number first then codes ",\"value\":" ++ value_of first else status_of text
 
 -- an answer of more, with what follows the second
 abbrev pub numbered_of : List ℕ → List ℕ → List ℕ → List ℕ → List ℕ

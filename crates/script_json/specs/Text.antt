@@ -1,5 +1,5 @@
 -- The texts of which values of JSON (RFC 8259) are made.
-use Rattle.std.specs.Prelude.{ℕ, ◌==◌, ◌&&◌, Bool, false, not, nat_le, List, [], ◌∷◌, ◌++◌, codes, if◌then◌else◌}
+use Rattle.std.specs.Prelude.{ℕ, ◌==◌, ◌&&◌, Bool, false, not, nat_le, List, [], ◌∷◌, ◌++◌, codes, if◌then◌else◌, length}
 use Rattle.std.specs.List.{flat_map, list_all}
 
 -- a byte between quotes: quotes, backslashes and tabs are escaped
@@ -21,6 +21,10 @@ is_number [] = false
 is_number (first ∷ []) = is_digit first
 is_number (first ∷ next ∷ more) = not (first == 48) && list_all is_digit (first ∷ next ∷ more)
 
--- a number as it is, and any other word between quotes
+-- .. of at most 15 digits, which a reader keeps as it is
+abbrev pub is_exact : List ℕ → Bool
+is_exact word = is_number word && nat_le (length word) 15
+
+-- such a number as it is, and any other word between quotes
 abbrev pub value_of : List ℕ → List ℕ
-value_of word = if is_number word then word else quoted word
+value_of word = if is_exact word then word else quoted word

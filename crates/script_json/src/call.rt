@@ -5,6 +5,7 @@ ghost use Rattle.std.specs.Io.KnownBytes.{Appends};
 ghost use Rattle.script_json.specs.Call.{text_of_call};
 
 use address_map::{CoreId, LineAddr, Op, SliceId, WordAddr};
+use json_text::Number;
 use litmus_script::TextWriter;
 use litmus_text::{Command, TextFault};
 use slice_queues_message::Channel;
@@ -74,7 +75,10 @@ impl fmt::Display for Call {
             Command::Stats => f.write_str("{\"name\":\"stats\"}"),
             Command::Waiting => f.write_str("{\"name\":\"waiting\"}"),
             Command::Show => f.write_str("{\"name\":\"show\"}"),
-            Command::Pump(calls) => write!(f, "{{\"name\":\"pump\",\"calls\":{calls}}}"),
+            Command::Pump(calls) => {
+                let calls = Number(calls);
+                write!(f, "{{\"name\":\"pump\",\"calls\":{calls}}}")
+            }
         }
     }
 }
@@ -92,9 +96,17 @@ impl fmt::Display for Asked {
     fn fmt<W: fmt::Write>(&self, f: &mut fmt::Formatter<W>) -> fmt::Result {
         match self.0 {
             Op::Load => f.write_str("\"op\":\"load\""),
-            Op::Store(value) => write!(f, "\"op\":\"store\",\"value\":{value}"),
-            Op::Add(value) => write!(f, "\"op\":\"add\",\"value\":{value}"),
+            Op::Store(value) => {
+                let value = Number(value);
+                write!(f, "\"op\":\"store\",\"value\":{value}")
+            }
+            Op::Add(value) => {
+                let value = Number(value);
+                write!(f, "\"op\":\"add\",\"value\":{value}")
+            }
             Op::Cas { expect, new } => {
+                let expect = Number(expect);
+                let new = Number(new);
                 write!(f, "\"op\":\"cas\",\"expect\":{expect},\"value\":{new}")
             }
         }

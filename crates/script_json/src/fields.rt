@@ -97,10 +97,18 @@ fn write_lone<W: Write>(text: &[u8], first: &[u8], out: &mut W) -> Result<(), Cu
     ensures { OnOk result (Appends (W.contents out.old) (W.contents out.new) (lone_of text.now first.now)) }
 {
     if is_number(first) {
-        write_labelled(b",\"value\":", first, out)
+        write_lone_value(first, out)
     } else {
         write_status(text, out)
     }
+}
+
+fn write_lone_value<W: Write>(value: &[u8], out: &mut W) -> Result<(), Cut>
+    ensures { OnOk result (Appends (W.contents out.old) (W.contents out.new)
+        (codes ",\"value\":" ++ value_of value.now)) }
+{
+    write_text(out, b",\"value\":")?;
+    write_value(value, out)
 }
 
 fn write_numbered<W: Write>(

@@ -4,7 +4,7 @@ ghost use Rattle.std.specs.Io.KnownBytes.{Appends};
 ghost use Rattle.std.specs.List.{flat_map, list_all};
 ghost use Rattle.json_text.specs.List.{before_text, with_commas};
 ghost use Rattle.litmus_text.specs.Text.{words_of_line};
-ghost use Rattle.script_json.specs.Text.{escaped, is_digit, is_number, quoted, value_of};
+ghost use Rattle.script_json.specs.Text.{escaped, is_digit, is_exact, is_number, quoted, value_of};
 
 use litmus_text::Words;
 use stats_report::{Cut, write_text};
@@ -75,15 +75,21 @@ fn write_each<W: Write>(words: Words<'_>, out: &mut W) -> Result<(), Cut>
     Ok(())
 }
 
-/// Writes a number as it is, and any other word between quotes.
+/// Writes a number of at most 15 digits as it is, and any other word between quotes.
 pub(crate) fn write_value<W: Write>(word: &[u8], out: &mut W) -> Result<(), Cut>
     ensures { OnOk result (Appends (W.contents out.old) (W.contents out.new) (value_of word.now)) }
 {
-    if is_number(word) {
+    if is_exact(word) {
         write_text(out, word)
     } else {
         write_quoted(word, out)
     }
+}
+
+fn is_exact(word: &[u8]) -> bool
+    ensures { result ≡ is_exact word.now }
+{
+    is_number(word) && word.len() <= 15
 }
 
 /// Whether a word is a number as JSON writes it.

@@ -1,7 +1,7 @@
 use Rattle.std.proofs.Common.{drop, map}
 use Rattle.std.specs.Fmt.{WritesInCalls}
 use Rattle.json_text.specs.List.{with_commas, with_commas_from}
-use Rattle.std.proofs.Common.{decimal}
+use Rattle.json_text.specs.Number.{number_of}
 use Rattle.outcomes_json.proofs.json.write_values.Given as goal
 
 -- who writes the items that are left has written all
@@ -9,5 +9,5 @@ abbrev pub invariant-loop-value : goal.invariant-loop-value
 invariant-loop-value g l =
     let took = g.W.Write.write_str_gives in
     (new : g.row.W.Denot)
-    → WritesInCalls took l.out (with_commas_from l.is_first (map decimal (drop l.value-index l.values))) new
-    → WritesInCalls took l.fn.out (with_commas (map decimal l.values)) new
+    → WritesInCalls took l.out (with_commas_from l.is_first (map number_of (drop l.value-index l.values))) new
+    → WritesInCalls took l.fn.out (with_commas (map number_of l.values)) new

@@ -99,7 +99,7 @@ abbrev pub walk_app : App
 walk_app =
     with_rules (new_app (codes "walk"))
     (file_rule ∷ positive_rule (codes "rounds") ∷ number_rule_or (codes "seed") (codes "1")
-    ∷ positive_rule (codes "limit") ∷ flag_rule (codes "script") ∷ lone_rule (codes "page") ∷ lone_rule (codes "json")
+    ∷ positive_rule (codes "limit") ∷ lone_rule (codes "script") ∷ lone_rule (codes "page") ∷ lone_rule (codes "json")
     ∷ flag_rule (codes "explain") ∷ [])
 
 -- an option `--name` that takes a text

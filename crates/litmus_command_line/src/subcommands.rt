@@ -333,9 +333,14 @@ fn walk<'a>(alloc: Global) -> Result<Command<'a>, AllocError>
             "How many moves a round may make, before it is given up",
         ),
     );
-    let command = and(
+    let command = and_made(
         command,
-        flag(alloc, "script", "Print the round of this seed, as a script"),
+        lone_flag(
+            alloc,
+            "script",
+            "Print the round of this seed, as a script",
+            &["rounds"],
+        ),
     );
     let command = and_made(
         command,
@@ -343,7 +348,7 @@ fn walk<'a>(alloc: Global) -> Result<Command<'a>, AllocError>
             alloc,
             "page",
             "Print the round of this seed, as a page for a browser",
-            &["script"],
+            &["rounds", "script"],
         ),
     );
     let command = and_made(

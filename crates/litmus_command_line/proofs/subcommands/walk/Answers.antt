@@ -6,7 +6,7 @@ returns c =
     let step_2 = c.and-command-2.ensures _ _ step_1 c.positive_number.ensures in
     let step_3 = c.and-command-3.ensures _ _ step_2 c.number_or.ensures in
     let step_4 = c.and-command-4.ensures _ _ step_3 c.positive_number-2.ensures in
-    let step_5 = c.and-command-5.ensures _ _ step_4 c.flag.ensures in
-    let step_6 = c.and_made-command.ensures _ _ step_5 c.lone_flag.ensures in
-    let step_7 = c.and_made-command-2.ensures _ _ step_6 c.lone_flag-2.ensures in
-    c.and.ensures _ _ step_7 c.flag-2.ensures
+    let step_5 = c.and_made-command.ensures _ _ step_4 c.lone_flag.ensures in
+    let step_6 = c.and_made-command-2.ensures _ _ step_5 c.lone_flag-2.ensures in
+    let step_7 = c.and_made-command-3.ensures _ _ step_6 c.lone_flag-3.ensures in
+    c.and.ensures _ _ step_7 c.flag.ensures

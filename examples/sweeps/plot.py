@@ -93,7 +93,7 @@ def main(words):
             with open(text, "w", encoding="utf-8") as it:
                 it.write(counters(cores))
             rows += [{**row, "cores": cores} for row in rows_of(lockup, text)]
-    drawn["sweep_cores"] = svg("False sharing against cores", "cores", means(rows, "cores", "false"))
+    drawn["sweep_cores"] = svg("False sharing against cores", "cores", means(rows, "cores", "misses_false_sharing"))
     drawn["sweep_registers"] = svg("Accesses that stall against miss registers", "miss registers", stalls(lockup))
     for name, picture in drawn.items():
         with open(f"{folder}/{name}.svg", "w", encoding="utf-8") as it:
@@ -102,4 +102,9 @@ def main(words):
 
 
 if __name__ == "__main__":
-    sys.exit(main(sys.argv[1:]))
+    try:
+        sys.exit(main(sys.argv[1:]))
+    except subprocess.CalledProcessError as error:
+        sys.exit(f"plot.py: {error.stderr.strip()}")
+    except OSError as error:
+        sys.exit(f"plot.py: {error}")

@@ -41,18 +41,23 @@ OPERANDS = {"load": (), "store": ("value",), "add": ("value",), "cas": ("expect"
 ENDS = {"ack": ("to", "from"), "home": ()}
 
 
+def number(text: str) -> int | str:
+    """A number of JSON: a string of its digits where it has more than 15."""
+    return int(text) if int(text) < 10 ** 15 else str(int(text))
+
+
 def call_of(line: str) -> dict:
     """A command as data."""
     name, *words = line.split()
     if name == "issue":
         core, tag, op, word, *operands = words
         return {"name": name, "core": int(core), "tag": int(tag), "word": int(word), "op": op,
-                **dict(zip(OPERANDS[op], map(int, operands), strict=True))}
+                **dict(zip(OPERANDS[op], map(number, operands), strict=True))}
     if name == "deliver":
         kind, at, *cores = words
         return {"name": name, "line": int(at), "class": kind,
                 **dict(zip(ENDS.get(kind, ("core",)), map(int, cores), strict=True))}
-    return {"name": name, **dict(zip(NAMES.get(name, ()), map(int, words), strict=True))}
+    return {"name": name, **dict(zip(NAMES.get(name, ()), map(number, words), strict=True))}
 
 
 # the answers that docs/TEXTS.md lists, with the fields of each
@@ -70,7 +75,7 @@ def fields_of(answer: str) -> dict:
     for form, status in ANSWERS:
         found = re.fullmatch(form, answer)
         if found:
-            fields = {name: told if name == "reason" else int(told) for name, told in found.groupdict().items()}
+            fields = {name: told if name == "reason" else number(told) for name, told in found.groupdict().items()}
             return fields if status is None else {"status": status, **fields}
     raise Different(f"docs/TEXTS.md has no answer {answer}")
 
@@ -120,6 +125,34 @@ def test_script_with_a_fault() -> None:
         same("the first", {"line": 1, "command": "\tword\t 0 ", "call": call, "answer": answer}, first)
         call = {"name": "word", "word": 1}
         same("the second", {"line": 2, "command": "word 1", "call": call, "answer": answer}, second)
+
+
+LONG, SHORT = str((1 << 64) - 1), 999999999999999
+
+
+def test_long_numbers_of_scripts() -> None:
+    text = (f"cores 1\nlines 1\ninit 0 {LONG}\ninit 1 {SHORT}\nword 0\nword 1\nissue 0 0 cas 0 {LONG} {SHORT + 1}\n"
+            f"issue 0 1 store 1 {SHORT}\ndeliver req 0 0\ndeliver data 0 0\nhand 0 0\npump {LONG}\n")
+    ran = lockup("script", "--json", "-", text=text)
+    same("status and error", (0, ""), (ran.status, ran.err))
+    values = [json.loads(line) for line in ran.out.splitlines()]
+    for value in values:
+        fits(value, schema("script"))
+    same("words", [[{"words": [LONG], "value": LONG}], [{"words": [SHORT], "value": SHORT}]],
+         [value["answer"] for value in values[:2]])
+    same("operands", [(LONG, str(SHORT + 1)), SHORT],
+         [(values[2]["call"]["expect"], values[2]["call"]["value"]), values[3]["call"]["value"]])
+    same("reply", (LONG, LONG), (values[6]["answer"][0]["reply"], values[6]["answer"][0]["words"][-1]))
+    same("calls", LONG, values[7]["call"]["calls"])
+
+
+def test_long_numbers_of_litmus_tests() -> None:
+    with tempfile.TemporaryDirectory() as room:
+        for value in LONG, str(1 << 53), str(SHORT + 1), SHORT:
+            file = write(f"{room}/test.txt", f"lockup-litmus 1\nrounds 1\ninit 0 {value}\nthread 0\nload 0 a\n")
+            for words, seed in (["litmus", file], {}), (["walk", file, "--seed", LONG], {"seed": LONG}):
+                outcome = {"rounds": 1, "values": [value], **seed}
+                same(words[0], [outcome], value_of(words[0], *words)["outcomes"])
 
 
 @each(lambda: ["script first_add.txt --explain", "script first_add.txt --vcd", "walk litmus/sb.txt --script",
@@ -214,6 +247,25 @@ def test_run(name: str) -> None:
     value_of("run_rows", "run", file, "--set", "outstanding=1,2", "--set", "misses=explicit,inverted")
 
 
+def test_names_are_whole_words() -> None:
+    """Of counts, in snake case, and none is a word that JSON or a language of its readers has."""
+    file = EXAMPLES / "programs/parallel_misses.txt"
+    report = value_of("run", "run", file, err=unused(read(file)))
+    rows = value_of("run_rows", "run", file, "--seeds", "1")
+    for each_of in report["all"], report["cores"][0], report["lines"][0], rows[0]:
+        for name in each_of:
+            want(re.fullmatch("[a-z]+(_[a-z]+)*", name) and name not in ("true", "false", "null"), f"{name} is a name")
+
+
+@each(lambda: ["--script", "--page"])
+def test_rounds_of_one_round(option: str) -> None:
+    """It is one round that is printed, so no number of them can be asked for."""
+    for words in (option, "--rounds", "5"), ("--rounds", "5", "--seed", "2", option):
+        ran = lockup("walk", EXAMPLES / "litmus/sb.txt", *words)
+        same("status and output", (2, ""), (ran.status, ran.out))
+        want("cannot be used with" in ran.err, ran.err)
+
+
 @each(lambda: sorted(path.stem for path in (ROOT / "docs/schema").glob("*.json")))
 def test_schema(name: str) -> None:
     """Each is named by the document of formats, and refuses what it is no schema of."""
@@ -229,7 +281,7 @@ def test_validator() -> None:
             want(faults(value, {"type": wrong}), f"{value} is taken as {wrong}")
     for value, other in (({"a": 1}, {"required": ["b"]}), ({"a": 1}, {"properties": {}, "additionalProperties": False}),
                          ([1, "x"], {"items": {"type": "integer"}}), (1, {"enum": [True, 2]}), (-1, {"minimum": 0}),
-                         (1, {"oneOf": [{}, {"type": "integer"}]}), (1, {"pattern": "1"}),
+                         (1, {"oneOf": [{}, {"type": "integer"}]}), (1, {"maximum": 3}), ("1x", {"pattern": "^[0-9]+$"}),
                          (1, {"$ref": "#/$defs/a", "$defs": {"a": {"type": "string"}}})):
         try:
             fits(value, other)

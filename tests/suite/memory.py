@@ -1,6 +1,7 @@
 """Refuses each of the program's allocations in turn: of a script from its file and from standard
-input, explained, drawn, beside its answers and as waves, of an exercise, of a trace, and of a
-litmus test over threads, on random schedules and as a script. Each of those runs prints the first
+input, explained, drawn, beside its answers and as waves, of an exercise, of a trace, of a litmus
+test over threads, on random schedules and as a script, and of programs, also as a script and as
+rows that are made side by side. Each of those runs prints the first
 of the answers and nothing else, then the error 'no memory', with status 3: no answer may change in
 place of the error. Or it does without that allocation, and prints all answers, with status 0."""
 import tempfile
@@ -12,11 +13,13 @@ SCRIPT = "examples/shared_line.txt"
 TRACE = "lockup-trace 2\nentry 0 0 0 add 0 5 0 0\nentry 63 0 0 load 8 0 0\nentry 0 1 1 load 70000 0 0\n"
 # one core whose replies are known, so that threads print one table alone
 TEST = "lockup-litmus 1\nrounds 2\ninit 0 7\ncounter 8\nthread 0\nload 0 a\nadd 8 1 b\nstore 16 2\nforbid a=0 b=1\n"
+PROGRAMS = "cores 2\nlines 4\noutstanding 2\ncore 0\nload 0..15\ncore 1\nadd 3 1\n"
 # the words of a run, in which a name stands for a file
 RUNS = [
     f"script {SCRIPT}", f"chart {SCRIPT}", "script --echo -", "script --explain -", "script --beside -",
     "script --beside --explain -", "script --vcd -", "test examples/exercises/first_miss.txt", "check TRACE",
-    "litmus TEST", "walk TEST", "walk --seed 5 --script TEST",
+    "litmus TEST", "walk TEST", "walk --seed 5 --script TEST", "run PROGRAMS", "run PROGRAMS --json",
+    "run PROGRAMS --script", "run PROGRAMS --csv", "run PROGRAMS --set ways=1,2 --set misses=explicit,inverted --seeds 1..2",
 ]
 
 
@@ -35,7 +38,8 @@ def judge(refused: int, wanted: str, ran: Ran) -> None:
 def test_refused(run: str) -> None:
     is_plain()
     with tempfile.TemporaryDirectory() as room:
-        files = {"TRACE": write(f"{room}/trace", TRACE), "TEST": write(f"{room}/test", TEST)}
+        files = {"TRACE": write(f"{room}/trace", TRACE), "TEST": write(f"{room}/test", TEST),
+                 "PROGRAMS": write(f"{room}/programs", PROGRAMS)}
         words, wanted, refused = [files.get(word, word) for word in run.split()], None, 0
         for refused, ran in each_refused([program(), *words], read(ROOT / SCRIPT)):
             if refused == 0:

@@ -6,7 +6,9 @@ causes.
 A core with several accesses under way has as many stalls for want of a miss register as a small
 simulation counts, which is written here. What `run --script` prints is run by `lockup script`: its
 answers come to the counts of the report, and what waits behind each of its moves to the most and the
-mean of registers and targets. What `run --page` prints is that script's page."""
+mean of registers and targets. What `run --page` prints is that script's page. What `run --json` prints
+has each number of the tables under its name."""
+import csv
 import json
 import tempfile
 from collections import Counter
@@ -18,6 +20,18 @@ from suite.draws import Generator
 
 FOLDER = ROOT / "examples/programs"
 COLUMNS = range(2, 15)
+# the columns of the tables, with what each is called in JSON and in rows
+KEYS = {
+    "requests": "requests", "hits": "hits", "misses": "misses", "cold": "misses_cold", "replaced": "misses_replaced",
+    "upgrade": "misses_upgrade", "true": "misses_true_sharing", "false": "misses_false_sharing", "evict": "evictions",
+    "req": "messages_request", "fwd": "messages_forwarded", "data": "messages_data", "ack": "messages_acknowledgement",
+    "home": "messages_home",
+}
+FURTHER = {
+    "primary": "misses_primary", "secondary": "misses_secondary", "stalls": "stalls", "register": "stalls_register",
+    "target": "stalls_target", "way": "stalls_way", "wb-full": "stalls_write_back_full",
+    "wb-busy": "stalls_write_back_busy",
+}
 
 
 def names() -> list[str]:
@@ -102,12 +116,13 @@ def test_what_changes_nothing(seed: int) -> None:
         file = write(f"{room}/text.txt", text)
         words = ("--set", "mshrs=1,8", "--set", "targets=1,4", "--set", "misses=explicit,inverted", "--seeds", "1..3")
         ran = lockup("run", file, *words)
-    rows = [row.split(",") for row in ran.out.splitlines()[1:]]
+    rows = list(csv.DictReader(ran.out.splitlines()))
     told = [f"lockup: --set {name} changes nothing: each core has one access under way\n" for name in ("mshrs", "targets", "misses")]
     same("error", "".join([unused(text), *told]), ran.err)
     same("rows", 24, len(rows))
     for row in rows:
-        same("counts of a seed", [it[4:] for it in rows if it[3] == row[3]][0], row[4:])
+        first = next(it for it in rows if it["seed"] == row["seed"])
+        same("counts of a seed", *({key: it[key] for key in [*KEYS.values(), *FURTHER.values()]} for it in (first, row)))
 
 
 def parallel(registers: int, most: int | None, loads: int) -> str:
@@ -165,15 +180,44 @@ def report_of(*words: object) -> dict:
     return json.loads(lockup("run", *words, "--json").out)
 
 
+def tables_of(report: str) -> dict[str, dict[str, dict[str, int]]]:
+    """What the tables show of each core and line, under the keys of JSON. A row of sums is the line `all`."""
+    found, kind, keys = {"core": {}, "line": {}}, "", []
+    for words in map(str.split, report.splitlines()[1:]):
+        if words[0] in found:
+            kind, keys = words[0], [{**KEYS, **FURTHER}.get(word) for word in words[1:]]
+        elif None not in keys:
+            found[kind].setdefault(words[0], {}).update(zip(keys, map(int, words[1:]), strict=True))
+    return found
+
+
+@each(names)
+def test_report_as_json(name: str) -> None:
+    """Each count stands under its name: what a column of the tables shows, and the sums."""
+    for words in ((), ("--outstanding", "4", "--seed", "5")):
+        value = report_of(FOLDER / f"{name}.txt", *words)
+        tables = tables_of(lockup("run", FOLDER / f"{name}.txt", *words).out)
+        limited = "stalls" in tables["core"]["0"]
+        keys = {*KEYS.values(), *(FURTHER.values() if limited else ())}
+        for kind in ("core", "line"):
+            told = {str(row[kind]): {key: row[key] for key in keys & {*row}} for row in value[f"{kind}s"]}
+            same(f"each {kind}", {row: counts for row, counts in tables[kind].items() if row != "all"}, told)
+        lines = {key: value["all"][key] for key in KEYS.values()}
+        same("all lines", tables["line"]["all"], lines)
+        if limited:
+            sums = {key: sum(counts[key] for counts in tables["core"].values()) for key in FURTHER.values()}
+            same("all cores", sums, {key: value["all"][key] for key in sums})
+
+
 @each(names)
 def test_schedule(name: str) -> None:
     for words in ((), ("--seed", "7"), ("--outstanding", "4")):
         counts, count = report_of(FOLDER / f"{name}.txt", *words)["all"], Counter()
         for command, answer in played(FOLDER / f"{name}.txt", *words):
             count[command[1] if command[0] == "deliver" else command[0], answer[0]] += 1
-        wanted = {(kind, "moved"): counts[kind] for kind in ("req", "fwd", "data", "ack", "home")}
+        wanted = {(kind, "moved"): counts[KEYS[kind]] for kind in ("req", "fwd", "data", "ack", "home")}
         wanted["issue", "done"] = counts["hits"]
-        wanted["issue", "pending"] = wanted["hand", "receipt"] = counts["misses"] + counts.get("secondary", 0)
+        wanted["issue", "pending"] = wanted["hand", "receipt"] = counts["misses"] + counts.get("misses_secondary", 0)
         wanted["issue", "stall"] = counts.get("stalls", 0)
         same("answers", Counter(wanted), +count)
 

@@ -1,8 +1,9 @@
 """Watches a long run as somebody at a terminal does: standard error is a pseudo-terminal, which is
 told how far it is.
 
-Behind each 500 rounds but the last stands how many of them are done, on one line, and behind each
-batch of rows but the last how many rows are. Where nobody watches nothing is said.
+Behind each 500 rounds but the last stands how many of them are done, on one line, behind each 65,536
+moves of programs how many of their steps are taken, and behind the rows that are written together, but
+the last, how many rows are. Where nobody watches nothing is said.
 """
 import os
 import pty
@@ -10,7 +11,7 @@ import re
 import subprocess
 import tempfile
 
-from harness import each, lockup, program, same, write
+from harness import each, lockup, program, same, want, write
 
 TEST = "lockup-litmus 1\nrounds 1500\nthread 0\nload 0 a\nforbid a=1\n"
 TOLD = b"500 of 1500 rounds\r1000 of 1500 rounds\r"
@@ -43,6 +44,17 @@ def test_rounds(verb: str) -> None:
         same("unwatched", (0, ""), (alone.status, alone.err))
 
 
+def test_steps() -> None:
+    """One core loads one word: the miss takes three moves, and each hit one."""
+    with tempfile.TemporaryDirectory() as room:
+        text = str(write(f"{room}/text", "core 0\nrepeat 200000\nload 0\nend\n"))
+        status, told = watched("run", text)
+        moves = (65536, 2 * 65536, 3 * 65536)
+        same("watched", (0, b"".join(b"%d of 200000 steps\r" % (count - 2) for count in moves)), (status, told))
+        alone = lockup("run", text)
+        same("unwatched", (0, ""), (alone.status, alone.err))
+
+
 def test_rows() -> None:
     with tempfile.TemporaryDirectory() as room:
         text = str(write(f"{room}/text", "core 0\nload 0\n"))
@@ -51,6 +63,7 @@ def test_rows() -> None:
         done = [int(count) for count in re.findall(rb"(\d+) of 2000 rows\r", told)]
         same("status", 0, status)
         same("told", b"".join(b"%d of 2000 rows\r" % count for count in done), told)
+        want(done, "nothing is told")
         same("ascending, below all", sorted(set(done) & set(range(1, 2000))), done)
         alone = lockup(*words)
         same("unwatched", (0, ""), (alone.status, alone.err))

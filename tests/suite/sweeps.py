@@ -1,7 +1,9 @@
-"""Runs sweeps: each row has the numbers that `lockup run --json` prints of the run of the text with
-the row's settings and seed, the rows stand in their order, and what can't be run is refused: an
-error names the line of the text, as `lockup run` does, behind the row's settings and seed. Rows are
-run by several threads at once. And generates each workload: `lockup run` takes it."""
+"""Runs sweeps: each row has the program's name, all settings, the seed, and the numbers that `lockup
+run --json` prints of the run of the text with these settings and the seed; the rows stand in their
+order, and what can't be run is refused: an error names the line of the text, as `lockup run` does,
+behind the row's settings and seed. Rows are run by several threads at once, each of which runs many
+where they are short, and are written as they are made. And generates each workload: `lockup run`
+takes it."""
 import csv
 import io
 import itertools
@@ -15,10 +17,18 @@ from pathlib import Path
 from harness import (
     Skipped, each, is_plain, lockup, preloaded, program, read, same, seconds, want, write,
 )
+from suite.programs import FURTHER, KEYS
 
 TEXT = "# two cores, one line\n\ncores 2\nways 1\n\ncore 0\nrepeat 4\nadd 0 1\nload 8..40\nend\ncore 1\nrepeat 4\nadd 1 1\nend\n"
 BEFORE = "# two cores, one line\n\ncores 2\nways 1\n\n"
 SIZES = {"matmul": 6, "histogram": 9, "ring": 20, "lock": 5, "chase": 33, "uniform": 40, "zipf": 40, "stencil": 7}
+# what a text has that says nothing of it
+DEFAULTS = {"cores": "2", "slices": "1", "lines": "16", "sets": "4", "ways": "2", "mshrs": "4", "targets": "4",
+            "writebacks": "2", "policy": "lru", "miss_file": "explicit", "exclusive": "off", "outstanding": ""}
+COUNTS = list(KEYS.values())
+FURTHER_COUNTS = [*FURTHER.values(), "moves", "registers_most", "registers_sum", "targets_most", "targets_sum"]
+COLUMNS = ["program", *DEFAULTS, "seed", *COUNTS, *FURTHER_COUNTS]
+WORDS = ("policy", "miss_file", "exclusive")
 REFUSED = {
     "--set walls=1": "--set walls: there is no such setting",
     "--set ways": "--set ways: not NAME=VALUE,VALUE..",
@@ -28,6 +38,10 @@ REFUSED = {
     "--set ways=1,17": "--set ways: '17' is none of its values",
     "--set ways=1,02": "--set ways: '02' is none of its values",
     "--set ways=1 --set ways=2": "--set ways: given twice",
+    "--set ways=1,1": "--set ways: '1' is given twice",
+    "--set ways=2,1,4,2": "--set ways: '2' is given twice",
+    "--set misses=explicit,inverted,explicit": "--set misses: 'explicit' is given twice",
+    "--set outstanding=3,3": "--set outstanding: '3' is given twice",
     "--set outstanding=1,65": "--set outstanding: '65' is none of its values",
     "--set outstanding=0": "--set outstanding: '0' is none of its values",
     "--set outstanding=2 --outstanding 3": "--set outstanding: given twice",
@@ -50,38 +64,90 @@ def rows_of(text: str, *words: str) -> list[dict[str, str]]:
     return list(csv.DictReader(io.StringIO(ran.out)))
 
 
+def value_of(name: str, cell: str) -> object:
+    """A cell of CSV as JSON has it."""
+    if name == "program" or name in WORDS:
+        return cell
+    return int(cell) if cell else None
+
+
+def row_of(file: str, settings: dict[str, str], seed: str, counts: dict[str, int]) -> dict[str, str]:
+    """The row of a text with these settings, where its run counts so much."""
+    cells = {"program": file, **DEFAULTS, **settings, "seed": seed}
+    return {name: cells[name] if name in cells else str(counts.get(name, "")) for name in COLUMNS}
+
+
+def counts_of(text: str, *words: str) -> dict[str, int]:
+    return json.loads(lockup("run", "-", *words, "--json", text=text).out)["all"]
+
+
 def test_rows() -> None:
     with tempfile.TemporaryDirectory() as room:
         text = str(write(f"{room}/text", TEXT))
         words = ("--set", "ways=1,2", "--set", "policy=lru,random 7", "--seeds", "3..5")
         rows = rows_of(text, *words, "--csv")
-        combinations = list(itertools.product(["1", "2"], ["lru", "random 7"], ["3", "4", "5"]))
-        same("order", combinations, [(row["ways"], row["policy"], row["seed"]) for row in rows])
+        wanted = []
+        for ways, policy, seed in itertools.product(["1", "2"], ["lru", "random 7"], ["3", "4", "5"]):
+            settings = {"ways": ways, "policy": policy}
+            wanted.append(row_of(text, settings, seed, counts_of(with_settings(settings), "--seed", seed)))
+        same("rows", wanted, rows)
+        same("columns", COLUMNS, list(rows[0]))
         listed = json.loads(lockup("run", text, *words, "--json").out)
-        same("rows of JSON", len(rows), len(listed))
-        for row, other in zip(rows, listed):
-            settings = {name: row[name] for name in ("ways", "policy")}
-            alone = str(write(f"{room}/alone", with_settings(settings)))
-            report = json.loads(lockup("run", alone, "--seed", row["seed"], "--json").out)["all"]
-            counts = {name: int(row[name]) for name in report}
-            same(f"row {settings} {row['seed']}", report, counts)
-            same("columns", [*settings, "seed", *report], list(row))
-            same("row of JSON", {"ways": int(row["ways"]), "policy": row["policy"], "seed": int(row["seed"]), **report}, other)
+        same("rows of JSON", [{name: value_of(name, row[name]) for name in COLUMNS} for row in rows], listed)
+        same("columns of JSON", COLUMNS, list(listed[0]))
 
 
-def test_kinds_of_miss_file() -> None:
-    """The setting has a name of its own beside the count."""
+def test_each_setting_has_a_column() -> None:
+    """The text says another value of each than a text that says nothing, and the command line a third."""
+    lines = {"cores": "3", "slices": "2", "lines": "24", "sets": "2", "ways": "3", "mshrs": "2", "targets": "3",
+             "writebacks": "1", "policy": "fifo", "misses": "inverted", "exclusive": "on", "outstanding": "5"}
+    others = {"cores": "4", "slices": "4", "lines": "32", "sets": "8", "ways": "1", "mshrs": "1", "targets": "2",
+              "writebacks": "3", "policy": "random 18446744073709551615", "misses": "explicit", "exclusive": "off",
+              "outstanding": "7"}
+    text = "".join(f"{name} {value}\n" for name, value in lines.items()) + "core 0\nload 0..99\ncore 2\nadd 9 1\n"
     with tempfile.TemporaryDirectory() as room:
-        text = str(write(f"{room}/text", TEXT))
-        words = ("--outstanding", "2", "--set", "misses=explicit,inverted")
-        rows = rows_of(text, *words, "--csv")
-        listed = json.loads(lockup("run", text, *words, "--json").out)
-        for kind, row, other in zip(("explicit", "inverted"), rows, listed, strict=True):
-            alone = str(write(f"{room}/alone", with_settings({"misses": kind})))
-            report = json.loads(lockup("run", alone, *words[:2], "--json").out)["all"]
-            same("columns", ["miss_file", "seed", *report], list(row))
-            same(f"row of {kind}", {"miss_file": kind, "seed": 1, **report}, other)
-            same(f"row of {kind}", {name: str(value) for name, value in other.items()}, row)
+        file = str(write(f"{room}/text", text))
+        said = {"miss_file" if name == "misses" else name: value for name, value in lines.items()}
+        same("the text's", [row_of(file, said, "1", counts_of(text))], rows_of(file, "--csv"))
+        for name, value in others.items():
+            column = "miss_file" if name == "misses" else name
+            changed = text.replace(f"{name} {lines[name]}\n", f"{name} {value}\n", 1)
+            row = row_of(file, {**said, column: value}, "1", counts_of(changed))
+            same(name, [row], rows_of(file, "--set", f"{name}={value}"))
+
+
+@each(lambda: ["plain", "two, parts", 'a "quoted" one', "a\nb", "a\\b\tc", "ä"])
+def test_the_name_of_the_program(name: str) -> None:
+    """It is FILE, as the command line has it, so that rows of several files can be put together."""
+    with tempfile.TemporaryDirectory() as room:
+        file = str(write(f"{room}/{name}", "core 0\nload 0\n"))
+        same("CSV", [file], [row["program"] for row in rows_of(file, "--csv")])
+        same("JSON", [file], [row["program"] for row in json.loads(lockup("run", file, "--seeds", "1", "--json").out)])
+    ran = lockup("run", "-", "--csv", text="core 0\nload 0\n")
+    same("standard input", ["-"], [row["program"] for row in csv.DictReader(io.StringIO(ran.out))])
+
+
+def test_rows_put_together() -> None:
+    """Behind one heading, whatever the texts count."""
+    with tempfile.TemporaryDirectory() as room:
+        one, other = str(write(f"{room}/one", "core 0\nload 0\n")), str(write(f"{room}/other", TEXT))
+        head, *rows = lockup("run", one, "--set", "ways=1,2").out.splitlines()
+        same("heading", head, lockup("run", other, "--set", "outstanding=4").out.splitlines()[0])
+        rows += lockup("run", other, "--set", "outstanding=4").out.splitlines()[1:]
+        found = [(row["program"], row["ways"], row["outstanding"]) for row in csv.DictReader([head, *rows])]
+        same("rows", [(one, "1", ""), (one, "2", ""), (other, "1", "4")], found)
+
+
+def test_long_numbers_of_json() -> None:
+    """A number of more than 15 digits is a string of them."""
+    with tempfile.TemporaryDirectory() as room:
+        text = str(write(f"{room}/text", "core 0\nload 0\n"))
+        for seed, wanted in ((999999999999999, 999999999999999), (1000000000000000, "1000000000000000"),
+                             ((1 << 53) - 1, str((1 << 53) - 1)), ((1 << 64) - 1, str((1 << 64) - 1))):
+            rows = json.loads(lockup("run", text, "--seeds", str(seed), "--json").out)
+            same("row", wanted, rows[0]["seed"])
+            same("report", wanted, json.loads(lockup("run", text, "--seed", str(seed), "--json").out)["seed"])
+            same("CSV", str(seed), rows_of(text, "--seeds", str(seed), "--csv")[0]["seed"])
 
 
 def test_accesses_under_way() -> None:
@@ -90,24 +156,37 @@ def test_accesses_under_way() -> None:
         for line in "", "outstanding 3\n":
             text = str(write(f"{room}/text", TEXT.replace("\ncore 0", f"\n{line}core 0", 1)))
             rows = rows_of(text, "--set", "outstanding=1,8", "--set", "ways=1,2", "--csv")
-            same("order", [("1", "1"), ("1", "2"), ("8", "1"), ("8", "2")], [(row["outstanding"], row["ways"]) for row in rows])
-            for row in rows:
-                alone = str(write(f"{room}/alone", with_settings({"ways": row["ways"]})))
-                report = json.loads(lockup("run", alone, "--outstanding", row["outstanding"], "--json").out)["all"]
-                same(f"row {row}", report, {name: int(row[name]) for name in report})
-            same("the first row", ["outstanding", "ways", "seed", *report], list(rows[0]))
+            wanted = []
+            for outstanding, ways in itertools.product(["1", "8"], ["1", "2"]):
+                counts = counts_of(with_settings({"ways": ways}), "--outstanding", outstanding)
+                wanted.append(row_of(text, {"outstanding": outstanding, "ways": ways}, "1", counts))
+            same("rows", wanted, rows)
 
 
 def test_rows_by_hand() -> None:
     # One core loads a word twice: a cold miss and a hit, with one request and one block.
+    head = ("program,cores,slices,lines,sets,ways,mshrs,targets,writebacks,policy,miss_file,exclusive,outstanding,seed,"
+            "requests,hits,misses,misses_cold,misses_replaced,misses_upgrade,misses_true_sharing,misses_false_sharing,"
+            "evictions,messages_request,messages_forwarded,messages_data,messages_acknowledgement,messages_home,"
+            "misses_primary,misses_secondary,stalls,stalls_register,stalls_target,stalls_way,stalls_write_back_full,"
+            "stalls_write_back_busy,moves,registers_most,registers_sum,targets_most,targets_sum\n")
     with tempfile.TemporaryDirectory() as room:
         text = str(write(f"{room}/text", "core 0\nload 0\nload 0\n"))
         ran = lockup("run", text, "--set", "ways=2,1", "--seeds", "7..8")
-        head = "ways,seed,requests,hits,misses,cold,replaced,upgrade,true,false,evict,req,fwd,data,ack,home\n"
-        rows = "".join(f"{ways},{seed},2,1,1,1,0,0,0,0,0,1,0,1,0,0\n" for ways in (2, 1) for seed in (7, 8))
+        rows = "".join(f"{text},2,1,16,4,{ways},4,4,2,lru,explicit,off,,{seed},2,1,1,1,0,0,0,0,0,1,0,1,0,0,,,,,,,,,,,,,\n"
+                       for ways in (2, 1) for seed in (7, 8))
         same("rows", (0, "", head + rows), (ran.status, ran.err, ran.out))
-        ran = lockup("run", text, "--csv")
-        same("one row", head.removeprefix("ways,") + "1,2,1,1,1,0,0,0,0,0,1,0,1,0,0\n", ran.out)
+        # Where the second may wait with the first, the register is open while two or three moves are made.
+        ran = lockup("run", text, "--outstanding", "1", "--csv")
+        row = f"{text},2,1,16,4,2,4,4,2,lru,explicit,off,1,1,2,1,1,1,0,0,0,0,0,1,0,1,0,0,1,0,0,0,0,0,0,0,4,1,2,1,2\n"
+        same("one row", (0, "", head + row), (ran.status, ran.err, ran.out))
+        ran = lockup("run", text, "--json", "--seeds", "4")
+        row = ('"cores":2,"slices":1,"lines":16,"sets":4,"ways":2,"mshrs":4,"targets":4,"writebacks":2,"policy":"lru",'
+               '"miss_file":"explicit","exclusive":"off","outstanding":null,"seed":4,"requests":2,"hits":1,"misses":1,'
+               '"misses_cold":1,"misses_replaced":0,"misses_upgrade":0,"misses_true_sharing":0,"misses_false_sharing":0,'
+               '"evictions":0,"messages_request":1,"messages_forwarded":0,"messages_data":1,"messages_acknowledgement":0,'
+               '"messages_home":0,' + ",".join(f'"{name}":null' for name in FURTHER_COUNTS))
+        same("JSON", (0, "", f'[\n{{"program":"{text}",{row}}}\n]\n'), (ran.status, ran.err, ran.out))
 
 
 @each(lambda: list(REFUSED))
@@ -148,7 +227,7 @@ def test_an_error_names_a_line(what: str) -> None:
 
 def test_an_error_of_a_later_row() -> None:
     """Rows before it are printed, and no other."""
-    settings = (("cores=2,1", "cores", "cores=1", "line 9"), ("lines=4,2,1,4", "lines", "lines=1", "line 7"))
+    settings = (("cores=2,1", "cores", "cores=1", "line 9"), ("lines=4,2,1,8", "lines", "lines=1", "line 7"))
     for setting, name, at, line in settings:
         with tempfile.TemporaryDirectory() as room:
             file = str(write(f"{room}/text", HEAD + "core 1\nload 3\n"))
@@ -204,6 +283,33 @@ def test_rows_are_run_side_by_side() -> None:
         want(at_once > 3, f"several threads made headway in {at_once} moments alone")
         same("status of one row", 0, lockup("run", file, "--csv", env=preloaded("started_threads", TOLD=told)).status)
         want(len(read(told)) <= 1, f"one row starts {len(read(told))} threads")
+
+
+@seconds(4)
+def test_rows_are_written_as_they_are_made() -> None:
+    """The first is there while later ones are still run."""
+    needs_processors()
+    is_plain()
+    count = 12 * len(os.sched_getaffinity(0))
+    text = "cores 1\nlines 2\nsets 1\nways 1\ncore 0\nrepeat 20000\nload 0\nload 8\nend\n"
+    with tempfile.TemporaryDirectory() as room:
+        file = str(write(f"{room}/file", text))
+        with subprocess.Popen([program(), "run", file, "--seeds", f"1..{count}", "--csv"], stdout=subprocess.PIPE) as ran:
+            first = [ran.stdout.readline(), ran.stdout.readline()]
+            runs_on = ran.poll() is None
+            rest = ran.stdout.readlines()
+        same("status and lines", (0, count + 1), (ran.returncode, len(first) + len(rest)))
+        want(runs_on, "it had ended once the first row was there")
+
+
+@seconds(2)
+def test_a_thread_makes_many_short_rows() -> None:
+    is_plain()
+    with tempfile.TemporaryDirectory() as room:
+        file, told = str(write(f"{room}/text", "core 0\nload 0\nload 0\n")), f"{room}/told"
+        ran = lockup("run", file, "--seeds", "1..5001", "--csv", env=preloaded("started_threads", TOLD=told))
+        same("status and lines", (0, 5002), (ran.status, len(ran.out.splitlines())))
+        want(len(read(told)) < 500, f"5,001 rows start {len(read(told))} threads")
 
 
 def test_blanks_around_a_value_are_refused() -> None:

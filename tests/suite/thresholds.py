@@ -48,7 +48,7 @@ def test_rows() -> None:
     is_plain()
     ran = ran_on("core 0\nload 0\nload 0\n", "run", "--set", "ways=1,2", "--seeds", "1..2501", "--csv")
     same("status and error", (0, ""), (ran.status, ran.err))
-    names = ("ways", "seed", "requests", "hits", "misses", "req", "data")
+    names = ("ways", "seed", "requests", "hits", "misses", "messages_request", "messages_data")
     rows = [tuple(row[name] for name in names) for row in csv.DictReader(io.StringIO(ran.out))]
     wanted = [(ways, str(seed), "2", "1", "1", "1", "1") for ways in "12" for seed in range(1, 2502)]
     want(wanted == rows, f"{len(rows)} rows, of which the first wrong one is "
@@ -65,8 +65,9 @@ def test_moves() -> None:
     ran = ran_on(text, "run", "--json")
     same("status and error", (0, ""), (ran.status, ran.err))
     counts = json.loads(ran.out)["all"]
-    wanted = {"requests": count, "hits": 0, "misses": count, "req": 2 * count - 1, "fwd": count - 1, "data": count,
-              "ack": 0, "home": 0, "moves": 5 * count - 2 + counts["stalls"]}
+    wanted = {"requests": count, "hits": 0, "misses": count, "messages_request": 2 * count - 1,
+              "messages_forwarded": count - 1, "messages_data": count, "messages_acknowledgement": 0, "messages_home": 0,
+              "moves": 5 * count - 2 + counts["stalls"]}
     same("counts", wanted, {name: counts[name] for name in wanted})
     want(counts["moves"] > 2_000_000, f"{counts['moves']} moves alone")
 

@@ -41,7 +41,9 @@ pub use outcomes_json::OutcomeForm;
 pub use pages::{page_schedule, page_walk};
 pub use program_generate::{GenerateFault, Size, Workload, write_workload};
 pub use program_run::{Form, run_programs, write_schedule};
-pub use program_sweep::{RowFault, RowForm, Seeds, Setting, Sweep, SweepFault, run_sweep};
+pub use program_sweep::{
+    RowFault, RowForm, Seeds, Setting, Sweep, SweepFault, program_name, run_sweep,
+};
 pub use script_beside::run_beside;
 pub use script_explained::run_explained;
 pub use script_json::run_json;

@@ -18,7 +18,7 @@ use litmus::{
 };
 use litmus_text::TextFault;
 use painted::Painted;
-use progress::Shown;
+use progress::{Counted, Shown};
 use rows::Rows;
 use std::alloc::Global;
 use std::env::VarError;
@@ -352,7 +352,12 @@ where
 {
     let alloc = rt.alloc();
     let is_watched = people.watch;
-    let shown = &mut Shown { rt, is_watched };
+    let counted = counted_by(line);
+    let shown = &mut Shown {
+        rt,
+        is_watched,
+        counted,
+    };
     match line {
         CommandLine::Script { form, .. } => write_run(alloc, input, form, out),
         CommandLine::Try { .. } => prompt::run(rt, input, people.type_lines, out),
@@ -421,7 +426,10 @@ where
             seed,
             json,
             ..
-        } => run_programs(alloc, input, outstanding, seed, report_form(json), out),
+        } => {
+            let form = report_form(json);
+            run_programs(alloc, input, outstanding, seed, form, shown, out)
+        }
         // These are printed by `rows::run` and `workload::run`.
         CommandLine::Sweep { .. } | CommandLine::Generate { .. } => Ok(REFUSED),
         CommandLine::Check { json: true, .. } => run_check_json(alloc, input, out),
@@ -465,6 +473,14 @@ fn extras_of(branches: Option<u64>, guess: bool) -> PageExtras {
     PageExtras {
         depth: branches.unwrap_or(0),
         guess,
+    }
+}
+
+/// What a long run counts on its way.
+const fn counted_by(line: CommandLine<'_>) -> Counted {
+    match line {
+        CommandLine::Run { .. } => Counted::Steps,
+        _ => Counted::Rounds,
     }
 }
 

@@ -3,32 +3,48 @@ use litmus::Progress;
 /// How many rounds lie between two times that it is told how far a run has got.
 const BETWEEN: u64 = 500;
 
-/// Shows on standard error how many rounds of a long run are done, where somebody watches.
-#[derive(Drop)]
-pub struct Shown<'a, R: Eprint> {
-    pub rt: &'a R,
-    pub is_watched: bool,
+/// What a long run counts on its way.
+#[derive(Clone, Copy)]
+pub enum Counted {
+    /// Rounds of a litmus test.
+    Rounds,
+    /// Steps of programs.
+    Steps,
+    /// Rows of a sweep.
+    Rows,
 }
 
-impl<R: Eprint> Progress for Shown<'_, R> {
-    fn done(&mut self, rounds: u64, all: u64) {
-        if self.is_watched && rounds % BETWEEN == 0 && rounds < all {
-            let _ = eprint!(self.rt; "{rounds} of {all} rounds\r");
+impl Counted {
+    fn name(self) -> &'static str {
+        match self {
+            Counted::Rounds => "rounds",
+            Counted::Steps => "steps",
+            Counted::Rows => "rows",
+        }
+    }
+
+    /// Whether it is told that so many are done.
+    fn is_told(self, done: u64) -> bool {
+        match self {
+            Counted::Rounds => done % BETWEEN == 0,
+            Counted::Steps | Counted::Rows => true,
         }
     }
 }
 
-/// Shows how many rows of a sweep are done, where somebody watches.
+/// Shows on standard error how much of a long run is done, where somebody watches.
 #[derive(Drop)]
-pub struct ShownRows<'a, R: Eprint> {
+pub struct Shown<'a, R: Eprint> {
     pub rt: &'a R,
     pub is_watched: bool,
+    pub counted: Counted,
 }
 
-impl<R: Eprint> Progress for ShownRows<'_, R> {
-    fn done(&mut self, rows: u64, all: u64) {
-        if self.is_watched && rows < all {
-            let _ = eprint!(self.rt; "{rows} of {all} rows\r");
+impl<R: Eprint> Progress for Shown<'_, R> {
+    fn done(&mut self, done: u64, all: u64) {
+        if self.is_watched && self.counted.is_told(done) && done < all {
+            let name = self.counted.name();
+            let _ = eprint!(self.rt; "{done} of {all} {name}\r");
         }
     }
 }

@@ -1,9 +1,9 @@
 //! The rows of a sweep.
 
-use super::progress::ShownRows;
+use super::progress::{Counted, Shown};
 use super::unused::tell_unused_settings;
 use super::{People, complain, read, report, show};
-use litmus::{RowFault, RowForm, Seeds, Sweep, SweepFault, read_settings, run_sweep};
+use litmus::{RowFault, RowForm, Seeds, Sweep, SweepFault, program_name, read_settings, run_sweep};
 use litmus_text::TextFault;
 use std::alloc::Global;
 use std::io::{self, BufWriter, Write};
@@ -75,7 +75,7 @@ where
     } else {
         RowForm::Csv
     };
-    match print_rows(rt, people, input, sweep, form) {
+    match print_rows(rt, people, input, sweep, rows.file, form) {
         Ok(()) => {
             let settings = sweep.settings.as_slice();
             tell_unused_settings(rt, people, input, settings, rows.outstanding);
@@ -100,19 +100,31 @@ fn print_rows<R>(
     people: People,
     input: &[u8],
     sweep: &Sweep<'_>,
+    file: &str,
     form: RowForm,
 ) -> Result<(), RowFault>
 where
     R: Files + Input + AllocGlobal + Print + Eprint + Threads + Sync,
 {
+    let program = program_name(rt.alloc(), form, file)?;
     let Ok(mut out) = BufWriter::new(rt.alloc(), io::writer(rt)) else {
         return Err(RowFault::NoMemory);
     };
-    let mut shown = ShownRows {
+    let mut shown = Shown {
         rt,
         is_watched: people.watch,
+        counted: Counted::Rows,
     };
-    let ran = run_sweep(rt.alloc(), rt, input, sweep, form, &mut shown, &mut out);
+    let ran = run_sweep(
+        rt.alloc(),
+        rt,
+        input,
+        sweep,
+        program.as_slice(),
+        form,
+        &mut shown,
+        &mut out,
+    );
     match out.flush() {
         Ok(()) => ran,
         Err(_) => Err(RowFault::CannotWrite),

@@ -9,6 +9,7 @@ pub mod PerformedLemmas
 pub mod RegisterLemmas
 pub mod RunLemmas
 pub mod Seen
+pub mod SumLemmas
 pub mod TidyLemmas
 pub mod Totals
 pub mod UsageLemmas

@@ -57,6 +57,31 @@ name_of columns.NoWay = codes "way"
 name_of columns.WriteBackFull = codes "wb-full"
 name_of columns.WriteBackBusy = codes "wb-busy"
 
+-- what it is called in JSON and in rows
+abbrev pub key_of : Column → List ℕ
+key_of columns.Requests = codes "requests"
+key_of columns.Hits = codes "hits"
+key_of columns.Misses = codes "misses"
+key_of columns.Cold = codes "misses_cold"
+key_of columns.Replaced = codes "misses_replaced"
+key_of columns.Upgrade = codes "misses_upgrade"
+key_of columns.TrueSharing = codes "misses_true_sharing"
+key_of columns.FalseSharing = codes "misses_false_sharing"
+key_of columns.Evictions = codes "evictions"
+key_of columns.Req = codes "messages_request"
+key_of columns.Fwd = codes "messages_forwarded"
+key_of columns.Data = codes "messages_data"
+key_of columns.Ack = codes "messages_acknowledgement"
+key_of columns.Home = codes "messages_home"
+key_of columns.Primary = codes "misses_primary"
+key_of columns.Secondary = codes "misses_secondary"
+key_of columns.Stalls = codes "stalls"
+key_of columns.NoRegister = codes "stalls_register"
+key_of columns.NoTarget = codes "stalls_target"
+key_of columns.NoWay = codes "stalls_way"
+key_of columns.WriteBackFull = codes "stalls_write_back_full"
+key_of columns.WriteBackBusy = codes "stalls_write_back_busy"
+
 -- what a column shows
 abbrev pub count_in : Column → Counts → ℕ
 count_in columns.Requests counts = requests_of counts

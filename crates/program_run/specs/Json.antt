@@ -2,16 +2,17 @@
 use Rattle.std.specs.Prelude.{ℕ, ◌==◌, Bool, true, false, not, List, [], ◌++◌, codes, decimal, filter, length, map}
 use Rattle.std.specs.List.{range_with_len}
 use Rattle.json_text.specs.List.{with_commas}
+use Rattle.json_text.specs.Number.{number_of}
 use Rattle.program_run.specs.declared.column.Column.{Column}
 use Rattle.program_run.specs.declared.tally.Counts.{Counts}
-use Rattle.program_run.specs.Column.{columns_of_all, columns_of_core, count_in, line_columns, name_of}
+use Rattle.program_run.specs.Column.{columns_of_all, columns_of_core, count_in, key_of, line_columns}
 use Rattle.program_run.specs.Tally.{TallyView, counts_at, requests_of, totals_of}
 use Rattle.program_run.specs.Usage.{no_usage, usage_at, usage_of_all}
 use Rattle.program_run.specs.declared.usage.Usage.{Usage}
 
--- what a column shows, under its name
+-- what a column shows, under its key
 abbrev pub member_of : Counts → Column → List ℕ
-member_of counts column = codes "\"" ++ (name_of column ++ (codes "\":" ++ decimal (count_in column counts)))
+member_of counts column = codes "\"" ++ (key_of column ++ (codes "\":" ++ number_of (count_in column counts)))
 
 -- what columns show of some counts
 abbrev pub members_of : List Column → Counts → List ℕ
@@ -21,11 +22,11 @@ members_of columns counts = with_commas (map (member_of counts) columns)
 abbrev pub usage_members : Bool → Usage → List ℕ
 usage_members false usage = []
 usage_members true usage =
-    codes ",\"moves\":" ++ (decimal usage.moves
-    ++ (codes ",\"registers_most\":" ++ (decimal usage.most_registers
-    ++ (codes ",\"registers_sum\":" ++ (decimal usage.sum_registers
-    ++ (codes ",\"targets_most\":" ++ (decimal usage.most_targets
-    ++ (codes ",\"targets_sum\":" ++ decimal usage.sum_targets))))))))
+    codes ",\"moves\":" ++ (number_of usage.moves
+    ++ (codes ",\"registers_most\":" ++ (number_of usage.most_registers
+    ++ (codes ",\"registers_sum\":" ++ (number_of usage.sum_registers
+    ++ (codes ",\"targets_most\":" ++ (number_of usage.most_targets
+    ++ (codes ",\"targets_sum\":" ++ number_of usage.sum_targets))))))))
 
 -- the object of a core
 abbrev pub core_object : Bool → ℕ → Counts → Usage → List ℕ
@@ -63,7 +64,7 @@ line_objects_of lines = with_commas (objects_of_lines lines (range_with_len 0 (l
 -- the whole value, in one line
 abbrev pub json_of : TallyView → List Usage → Bool → ℕ → List ℕ
 json_of tally usages is_limited seed =
-    codes "{\"seed\":" ++ (decimal seed ++ codes ",\"cores\":[")
+    codes "{\"seed\":" ++ (number_of seed ++ codes ",\"cores\":[")
     ++ core_objects_of is_limited tally.cores usages
     ++ codes "],\"lines\":[" ++ line_objects_of tally.lines
     ++ codes "],\"all\":{" ++ members_of (columns_of_all is_limited) (totals_of tally.lines)

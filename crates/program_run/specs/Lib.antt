@@ -7,6 +7,7 @@ pub mod Kept
 pub mod Register
 pub mod Report
 pub mod Run
+pub mod Sums
 pub mod Tally
 pub mod Tidy
 pub mod Usage

@@ -1,12 +1,12 @@
 ghost use Rattle.std.specs.Prelude.{◌≡◌};
-ghost use Rattle.program_run.specs.Column.{columns_of_all, columns_of_core, core_columns, count_in, line_columns, name_of};
-ghost use Rattle.program_run.specs.Column.{parallel_columns};
+ghost use Rattle.program_run.specs.Column.{columns_of_all, columns_of_core, core_columns, count_in, key_of, line_columns};
+ghost use Rattle.program_run.specs.Column.{name_of, parallel_columns};
 
 use super::tally::Counts;
 
 /// A column of the report, by what it counts.
 #[derive(Clone, Copy)]
-pub(crate) enum Column {
+pub enum Column {
     Requests,
     Hits,
     Misses,
@@ -154,6 +154,36 @@ impl Column {
             Column::NoWay => "way",
             Column::WriteBackFull => "wb-full",
             Column::WriteBackBusy => "wb-busy",
+        }
+    }
+
+    /// What it is called where no heading of a table says what it belongs to: in JSON and in rows.
+    pub fn key(self) -> &'static str
+        ensures { result.now ≡ key_of self }
+    {
+        match self {
+            Column::Requests => "requests",
+            Column::Hits => "hits",
+            Column::Misses => "misses",
+            Column::Cold => "misses_cold",
+            Column::Replaced => "misses_replaced",
+            Column::Upgrade => "misses_upgrade",
+            Column::TrueSharing => "misses_true_sharing",
+            Column::FalseSharing => "misses_false_sharing",
+            Column::Evictions => "evictions",
+            Column::Req => "messages_request",
+            Column::Fwd => "messages_forwarded",
+            Column::Data => "messages_data",
+            Column::Ack => "messages_acknowledgement",
+            Column::Home => "messages_home",
+            Column::Primary => "misses_primary",
+            Column::Secondary => "misses_secondary",
+            Column::Stalls => "stalls",
+            Column::NoRegister => "stalls_register",
+            Column::NoTarget => "stalls_target",
+            Column::NoWay => "stalls_way",
+            Column::WriteBackFull => "stalls_write_back_full",
+            Column::WriteBackBusy => "stalls_write_back_busy",
         }
     }
 

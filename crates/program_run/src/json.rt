@@ -17,11 +17,11 @@ ghost use Rattle.program_run.specs.Usage.{usage_at};
 use super::column::{Column, columns_of_all, columns_of_core, line_columns};
 use super::tally::{Counts, Tally};
 use super::usage::{Usage, usage_of_all};
-use json_text::write_comma;
+use json_text::{Number, write_comma};
 use std::fmt;
 use std::fmt::Write;
 
-/// Writes what the report shows, under the names of its columns.
+/// Writes what the report shows, under the keys of its columns.
 pub(crate) fn write_json<W: Write>(
     tally: &Tally,
     usages: &[Usage],
@@ -32,6 +32,7 @@ pub(crate) fn write_json<W: Write>(
     ensures { OnOk result
         (WritesInCalls W.write_str_gives out.old (json_of tally.now usages.now is_limited seed) out.new) }
 {
+    let seed = Number(seed);
     write!(out, "{{\"seed\":{seed},\"cores\":[")?;
     write_cores(is_limited, tally.cores(), usages, out)?;
     write!(out, "],\"lines\":[")?;
@@ -92,13 +93,11 @@ fn write_usage<W: Write>(is_limited: bool, usage: Usage, out: &mut W) -> fmt::Re
     if !is_limited {
         return Ok(());
     }
-    let Usage {
-        moves,
-        most_registers,
-        sum_registers,
-        most_targets,
-        sum_targets,
-    } = usage;
+    let moves = Number(usage.moves);
+    let most_registers = Number(usage.most_registers);
+    let sum_registers = Number(usage.sum_registers);
+    let most_targets = Number(usage.most_targets);
+    let sum_targets = Number(usage.sum_targets);
     write!(
         out,
         ",\"moves\":{moves},\"registers_most\":{most_registers},\"registers_sum\":{sum_registers},\"targets_most\":{most_targets},\"targets_sum\":{sum_targets}"
@@ -144,7 +143,7 @@ fn write_members<W: Write>(columns: &[Column], counts: &Counts, out: &mut W) -> 
 fn write_member<W: Write>(column: Column, counts: &Counts, out: &mut W) -> fmt::Result
     ensures { OnOk result (WritesInCalls W.write_str_gives out.old (member_of counts.now column) out.new) }
 {
-    let name = column.name();
-    let count = column.count(counts);
-    write!(out, "\"{name}\":{count}")
+    let key = column.key();
+    let count = Number(column.count(counts));
+    write!(out, "\"{key}\":{count}")
 }

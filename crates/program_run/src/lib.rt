@@ -15,18 +15,25 @@
 //!   (specs/History.antt). A miss is counted under its cause (`miss_cause`).
 //! - src/tally.rt: the counts, for each core and for each line (specs/Tally.antt).
 //! - src/usage.rt: how many miss registers and targets are in use, move by move (specs/Usage.antt).
-//! - src/report.rt and src/json.rt write what was counted (specs/Report.antt, specs/Json.antt).
+//! - src/report.rt and src/json.rt write what was counted (specs/Report.antt, specs/Json.antt); src/column.rt has the
+//!   columns of both, under what they are called in tables and elsewhere. src/sums.rt gives the sums as a value
+//!   (specs/Sums.antt).
 //! - src/calls.rt: the calls that the moves make of the machine, where they are wanted; src/script.rt prints them as a
 //!   script (specs/Calls.antt).
 //!
-//! [`run_programs`] is proved to print the report of what the moves of one such run counted (`IsProgramsRun`), and
-//! [`write_schedule`] the calls that the moves of one make, as a script for its machine (`PrintsSchedule`).
+//! [`run_programs`] is proved to print the report of what the moves of one such run counted (`IsProgramsRun`),
+//! [`count_programs`] to return the sums of it (`IsCounted`), and [`write_schedule`] to print the calls that the moves of
+//! one make, as a script for its machine (`PrintsSchedule`).
 //!
 //! [`Xoshiro256++`]: rand_xoshiro::Xoshiro256PlusPlus
 #![tactic(auto)]
 
-pub use run::{Form, run_programs};
+pub use column::Column;
+pub use run::{Form, limit, run_programs};
 pub use script::write_schedule;
+pub use sums::{Sums, count_programs};
+pub use tally::Counts;
+pub use usage::Usage;
 
 mod calls;
 mod column;
@@ -41,6 +48,7 @@ mod report;
 mod run;
 mod runner;
 mod script;
+mod sums;
 mod tally;
 mod tidy;
 mod usage;

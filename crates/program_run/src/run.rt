@@ -18,6 +18,7 @@ use super::runner::Runner;
 use super::tally::Tally;
 use super::usage::Usage;
 use litmus_script::TextWriter;
+use litmus_test::Progress;
 use litmus_text::TextFault;
 use mshr_file::{ExplicitFile, InvertedFile, MissFile, MissKind};
 use program_text::Programs;
@@ -38,12 +39,13 @@ pub enum Form {
 /// Runs the programs that a text says in the order that the seed draws, and prints the report. So many accesses of a
 /// core may be under way as the text says, where no other number is given, and one where neither says a number. Returns
 /// the exit status, which is 1 where nothing can move before the end; then nothing else is printed.
-pub fn run_programs<W: Write>(
+pub fn run_programs<P: Progress, W: Write>(
     alloc: Global,
     input: &[u8],
     outstanding: Option<u64>,
     seed: u64,
     form: Form,
+    progress: &mut P,
     out: &mut W,
 ) -> Result<u8, TextFault>
     ensures done { IfOk result (λ status. (programs : Programs)
@@ -54,11 +56,11 @@ pub fn run_programs<W: Write>(
 {
     let mut programs = Programs::read(alloc, input)?;
     limit(&mut programs, outstanding);
-    run_read(alloc, &programs, seed, form, out)
+    run_read(alloc, &programs, seed, form, progress, out)
 }
 
 /// So many accesses of a core may be under way, where a number is given.
-pub(crate) fn limit(programs: &mut Programs, outstanding: Option<u64>)
+pub fn limit(programs: &mut Programs, outstanding: Option<u64>)
     ensures { programs.new ≡ limited_to outstanding programs.old }
 {
     match outstanding {
@@ -68,11 +70,12 @@ pub(crate) fn limit(programs: &mut Programs, outstanding: Option<u64>)
 }
 
 /// The same with programs that are read.
-fn run_read<W: Write>(
+fn run_read<P: Progress, W: Write>(
     alloc: Global,
     programs: &Programs,
     seed: u64,
     form: Form,
+    progress: &mut P,
     out: &mut W,
 ) -> Result<u8, TextFault>
     ensures done { IfOk result (λ status. IsProgramsRun
@@ -81,16 +84,21 @@ fn run_read<W: Write>(
     ensures fault { IfErr result IsOfRun }
 {
     match programs.misses {
-        MissKind::Explicit => run_on::<ExplicitFile, W>(alloc, programs, seed, form, out),
-        MissKind::Inverted => run_on::<InvertedFile, W>(alloc, programs, seed, form, out),
+        MissKind::Explicit => {
+            run_on::<ExplicitFile, P, W>(alloc, programs, seed, form, progress, out)
+        }
+        MissKind::Inverted => {
+            run_on::<InvertedFile, P, W>(alloc, programs, seed, form, progress, out)
+        }
     }
 }
 
-fn run_on<F: MissFile, W: Write>(
+fn run_on<F: MissFile, P: Progress, W: Write>(
     alloc: Global,
     programs: &Programs,
     seed: u64,
     form: Form,
+    progress: &mut P,
     out: &mut W,
 ) -> Result<u8, TextFault>
     ensures done { IfOk result (λ status. IsProgramsRun (F.bound_by programs.now.config)
@@ -98,7 +106,7 @@ fn run_on<F: MissFile, W: Write>(
     ensures fault { IfErr result IsOfRun }
 {
     let mut runner = Runner::<F>::new(alloc, programs, false)?;
-    run(alloc, programs, seed, &mut runner)?;
+    run(alloc, programs, seed, &mut runner, progress)?;
     if runner.is_over(programs) {
         let limited = is_limited(programs.outstanding);
         let usages = runner.usages(alloc, programs)?;
@@ -121,11 +129,12 @@ fn is_limited(outstanding: Option<u64>) -> bool
 }
 
 /// Makes moves up to the end.
-pub(crate) fn run<F: MissFile>(
+pub(crate) fn run<F: MissFile, P: Progress>(
     alloc: Global,
     programs: &Programs,
     seed: u64,
     runner: &mut Runner<F>,
+    progress: &mut P,
 ) -> Result<(), AllocError>
     ensures { OnOk result (Leads (Runs runner.old.config programs.now seed) runner.old runner.new) }
 {
@@ -141,6 +150,7 @@ pub(crate) fn run<F: MissFile>(
         runner.go(programs, to, &mut kept, &mut performed)?;
         runner.measure(is_limited(programs.outstanding));
         runner.tidy(made, &mut kept);
+        runner.tell(made, programs, progress);
     }
     Ok(())
 }

@@ -49,12 +49,16 @@ use super::tidy::tidy;
 use super::usage::Usage;
 use address_map::{CoreId, LineAddr, Request, SliceId};
 use litmus_script::{Issued, Machine};
+use litmus_test::Progress;
 use litmus_text::Command;
 use mshr_file::MissFile;
 use program_text::{CoreProgram, Programs};
 use slice_core::{AccessKind, Decision, Delivered, Entry, Message, Pick, Placement};
 use std::alloc::{AllocError, Global};
 use std::marker::Model;
+
+/// How many moves lie between two times that it is told how far a run has got.
+const BETWEEN: u64 = 65_536;
 
 /// A run on its way: the machine with the calls that are made of it, where each program is, and what was seen.
 #[derive(Drop)]
@@ -145,6 +149,14 @@ impl<F: MissFile> Runner<F> {
         ensures kept { Knows self.old.config self.new.slices kept.new }
     {
         tidy(&mut self.machine, made, kept);
+    }
+
+    /// Tells now and then how many of all steps are taken.
+    pub fn tell<P: Progress>(&self, made: u64, programs: &Programs, progress: &mut P) {
+        if made % BETWEEN == BETWEEN - 1 {
+            let taken = steps_taken(self.places.as_slice());
+            progress.done(taken, steps_of(programs.cores.as_slice()));
+        }
     }
 
     /// Lists what may come next.
@@ -527,6 +539,22 @@ fn front_of<F: MissFile>(machine: &Machine<F>, pick: Pick) -> Option<Message>
 {
     let slice = machine.slice_of(pick.line());
     machine.slices[slice].front(pick)
+}
+
+fn steps_of(programs: &[CoreProgram]) -> u64 {
+    let mut steps: u64 = 0;
+    for program in programs {
+        steps = steps.saturating_add(program.steps.len() as u64);
+    }
+    steps
+}
+
+fn steps_taken(places: &[Place]) -> u64 {
+    let mut taken: u64 = 0;
+    for place in places {
+        taken = taken.saturating_add(place.asked as u64);
+    }
+    taken
 }
 
 fn have_ended(programs: &[CoreProgram], places: &[Place]) -> bool

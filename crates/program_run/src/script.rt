@@ -12,6 +12,7 @@ use super::run::{limit, run};
 use super::runner::Runner;
 use address_map::Checked;
 use litmus_script::TextWriter;
+use litmus_test::Silent;
 use litmus_text::{Command, TextFault};
 use mshr_file::{ExplicitFile, InvertedFile, MissFile, MissKind};
 use program_text::Programs;
@@ -70,7 +71,8 @@ fn write_on<F: MissFile, W: io::Write>(
     ensures fault { IfErr result IsOfRun }
 {
     let mut runner = Runner::<F>::new(alloc, programs, true)?;
-    run(alloc, programs, seed, &mut runner)?;
+    let mut silent = Silent;
+    run(alloc, programs, seed, &mut runner, &mut silent)?;
     print_script(&programs.config, programs.misses, runner.calls(), out)?;
     if runner.is_over(programs) {
         Ok(0)

@@ -80,7 +80,7 @@ impl Counted {
 /// What was counted of a core, or of a line. A count stops at 2^64 - 1.
 // What most lines count stands together, so that fewer cache lines are written.
 #[derive(Clone, Copy)]
-pub(crate) struct Counts {
+pub struct Counts {
     pub hits: u64,
     pub cold: u64,
     pub replaced: u64,

@@ -5,7 +5,7 @@ ghost use Rattle.program_run.specs.Usage.{hundredths_of, measured, no_usage, usa
 /// How many miss registers and targets of a core were in use behind each move: the most, and the sum over the moves. A
 /// number stops at 2^64 - 1.
 #[derive(Clone, Copy)]
-pub(crate) struct Usage {
+pub struct Usage {
     pub moves: u64,
     pub most_registers: u64,
     pub sum_registers: u64,

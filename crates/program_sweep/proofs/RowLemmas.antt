@@ -1,9 +1,8 @@
--- Texts that grow piece by piece, one for each item of a list, and what stands behind a byte.
+-- Texts that grow piece by piece, one for each item of a list.
 use Rattle.std.proofs.Common.{◌≡◌, ℕ, ◌+◌, ◌<◌, ◌≤◌, List, ◌++◌, length, get_or, drop, sym, ap}
 use Rattle.std.proofs.Common.{◌∙◌, append_assoc}
 use Rattle.std.specs.List.{flat_map}
 use Rattle.std.proofs.lemmas.List.{append-nil, at_drop_all, at_drop_more}
-use Rattle.program_sweep.specs.Row.{behind_brace, later}
 
 module _ {X : Type 0} (f : X → List ℕ) (xs : List X) (i : ℕ) where
   -- the piece of the next item, and then those of the items behind it
@@ -27,14 +26,17 @@ module _ {X : Type 0} (f : X → List ℕ) (xs : List X) (i : ℕ) where
   pub last_pieces : (now : List ℕ) → length xs ≤ i → now ≡ now ++ flat_map f (drop i xs)
   last_pieces now end = sym (ap (λ (t : List ℕ). now ++ t) (at_drop_all (flat_map f) xs i end) ∙ append-nil now)
 
--- the next byte, which may be a brace
-pub next_brace : (xs : List ℕ) (i d : ℕ) (before behind after : List ℕ) → i < length xs → behind ≡ drop (i + 1) xs
-    → after ≡ later before (get_or xs i d) behind
-    → behind_brace after (drop (i + 1) xs) ≡ behind_brace before (drop i xs)
-next_brace xs i d before behind after below there is =
-    ap (λ (t : List ℕ). behind_brace t (drop (i + 1) xs)) (is ∙ ap (later before (get_or xs i d)) there)
-    ∙ sym (at_drop_more (behind_brace before) xs i d below)
+-- pieces that are added one behind another are added together
+pub three_pieces : (old a b c one two three : List ℕ) → one ≡ old ++ a → two ≡ one ++ b → three ≡ two ++ c
+    → three ≡ old ++ ((a ++ b) ++ c)
+three_pieces old a b c one two three first second third =
+    third
+    ∙ ap (λ (t : List ℕ). t ++ c) (second ∙ ap (λ (t : List ℕ). t ++ b) first ∙ append_assoc old a b)
+    ∙ append_assoc old (a ++ b) c
 
--- behind the last byte nothing changes
-pub last_brace : (xs : List ℕ) (i : ℕ) (now : List ℕ) → length xs ≤ i → now ≡ behind_brace now (drop i xs)
-last_brace xs i now end = sym (at_drop_all (behind_brace now) xs i end)
+pub four_pieces : (old a b c d one two three four : List ℕ) → one ≡ old ++ a → two ≡ one ++ b → three ≡ two ++ c
+    → four ≡ three ++ d → four ≡ old ++ (((a ++ b) ++ c) ++ d)
+four_pieces old a b c d one two three four first second third fourth =
+    fourth
+    ∙ ap (λ (t : List ℕ). t ++ d) (three_pieces old a b c one two three first second third)
+    ∙ append_assoc old ((a ++ b) ++ c) d

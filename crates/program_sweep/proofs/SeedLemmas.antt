@@ -79,6 +79,7 @@ range_fault text first last one other (faults.NoValue said) whole begins ends is
 range_fault text first last one other (faults.Unknown said) whole begins ends is = absurd is
 range_fault text first last one other (faults.AddsUp said) whole begins ends is = absurd is
 range_fault text first last one other (faults.BadValue name value) whole begins ends is = absurd is
+range_fault text first last one other (faults.SameValue name value) whole begins ends is = absurd is
 range_fault text first last one other (faults.Twice said) whole begins ends is = absurd is
 range_fault text first last one other faults.NoMemory whole begins ends is = absurd is
 
@@ -96,5 +97,6 @@ seed_fault text one (faults.NoValue said) alone parsed is = absurd is
 seed_fault text one (faults.Unknown said) alone parsed is = absurd is
 seed_fault text one (faults.AddsUp said) alone parsed is = absurd is
 seed_fault text one (faults.BadValue name value) alone parsed is = absurd is
+seed_fault text one (faults.SameValue name value) alone parsed is = absurd is
 seed_fault text one (faults.Twice said) alone parsed is = absurd is
 seed_fault text one faults.NoMemory alone parsed is = absurd is

@@ -1,66 +1,83 @@
 -- The rows of a sweep.
-use Rattle.std.specs.Prelude.{◌≡◌, ℕ, ◌+◌, ◌<◌, List, [], ◌∷◌, ◌++◌, length, IfOk, Option, Some, Result}
+use Rattle.std.specs.Prelude.{◌≡◌, ◌≢◌, ℕ, ◌+◌, ◌<◌, List, [], ◌∷◌, ◌++◌, length, IfOk, Option, Some, Result}
 use Rattle.std.specs.Prelude.{slice_index_or}
-use Rattle.std.specs.Global.{Vec}
 use Rattle.std.specs.Io.KnownBytes.{Appends}
 use Rattle.std.specs.List.{concat}
 use Rattle.std.specs.Str.Lines.{lines}
 use Rattle.litmus_script.specs.Machine.{bound_of}
-use Rattle.program_run.specs.Run.{IsProgramsRun, limited_to}
-use Rattle.program_run.specs.declared.run.Form.TheVariants as forms
+use Rattle.litmus_text.specs.declared.fault.TextFault.TheVariants as text_faults
+use Rattle.program_run.specs.Run.{limited_to}
+use Rattle.program_run.specs.Sums.{IsCounted}
+use Rattle.program_run.specs.declared.sums.Sums.{Sums}
 use Rattle.program_text.specs.Fault.{IsProgramText, programs_of, settings_of}
 use Rattle.program_text.specs.declared.programs.Programs.{Programs}
 use Rattle.program_sweep.specs.declared.fault.Refusal.{Refusal}
-use Rattle.program_sweep.specs.declared.row.RowForm.{RowForm}
+use Rattle.program_sweep.specs.declared.fault.Refusal.TheVariants as refusals
+use Rattle.program_sweep.specs.declared.fault.RowFault.{RowFault}
+use Rattle.program_sweep.specs.declared.fault.RowFault.TheVariants as row_faults
+use Rattle.program_sweep.specs.declared.form.RowForm.{RowForm}
+use Rattle.program_sweep.specs.declared.row.Row.{Row}
 use Rattle.program_sweep.specs.declared.sweep.Sweep.{Sweep}
-use Rattle.program_sweep.specs.Row.{foot_of, row_of}
+use Rattle.program_sweep.specs.Form.{end_of, text_of_row}
+use Rattle.program_sweep.specs.Row.{row_of}
 use Rattle.program_sweep.specs.Text.{IsOutstandingIn, lines_of_settings, seed_in, with_settings}
 
--- the report that the run of a text with a seed prints, as JSON, where it comes to its end, with so many accesses of a
--- core under way where a number is given
-pub record IsReport (text : List ℕ) (outstanding : Option ℕ) (seed : ℕ) (report : List ℕ) : Type 0 where
-  pub programs : Programs
-  pub says : IsProgramText text (settings_of programs) programs.outstanding (programs_of programs)
-  pub runs : IsProgramsRun (bound_of programs.misses programs.config) (limited_to outstanding programs) forms.Json
-      seed 0 (Some []) (Some report)
+-- the row has the settings of these programs, the seed, and the sums of their run, which comes to its end
+pub record IsRowOf (programs : Programs) (seed : ℕ) (row : Row) : Type 0 where
+  pub sums : Sums
+  pub counted : IsCounted (bound_of programs.misses programs.config) programs seed (Some sums)
+  pub is : row ≡ row_of programs seed sums
 
--- the row of the run of a text with the settings and the seed of this row
-pub record IsRow (input : List ℕ) (sweep : Sweep) (form : RowForm) (row : ℕ) (text : List ℕ) : Type 0 where
-  pub report : List ℕ
+-- the row is that of the text with the settings and the seed of the row of this number, with so many accesses of a core
+-- under way as a setting or the command line says
+pub record HasRun (input : List ℕ) (sweep : Sweep) (number : ℕ) (row : Row) : Type 0 where
+  pub read : Programs
+  pub says : IsProgramText (with_settings (lines_of_settings sweep.settings.items number) (lines input))
+      (settings_of read) read.outstanding (programs_of read)
   pub most : Option ℕ
-  pub outstanding : IsOutstandingIn sweep.settings.items sweep.outstanding row most
-  pub reported : IsReport (with_settings (lines_of_settings sweep.settings.items row) (lines input))
-      most (seed_in sweep.seeds row) report
-  pub written : text ≡ row_of form sweep.settings.items row (seed_in sweep.seeds row) report
+  pub outstanding : IsOutstandingIn sweep.settings.items sweep.outstanding number most
+  pub has : IsRowOf (limited_to most read) (seed_in sweep.seeds number) row
+
+-- .. and this is its text
+pub record IsRow (input : List ℕ) (sweep : Sweep) (program : List ℕ) (form : RowForm) (number : ℕ) (text : List ℕ) :
+    Type 0 where
+  pub row : Row
+  pub run : HasRun input sweep number row
+  pub written : text ≡ text_of_row form program number row
 
 -- the rows from this one on, in order
-abbrev pub AreRows : List ℕ → Sweep → RowForm → ℕ → List (List ℕ) → Type 0
-AreRows input sweep form first [] = Unit {0}
-AreRows input sweep form first (text ∷ more) =
-    IsRow input sweep form first text × AreRows input sweep form (first + 1) more
+abbrev pub AreRows : List ℕ → Sweep → List ℕ → RowForm → ℕ → List (List ℕ) → Type 0
+AreRows input sweep program form first [] = Unit {0}
+AreRows input sweep program form first (text ∷ more) =
+    IsRow input sweep program form first text × AreRows input sweep program form (first + 1) more
 
 -- so many rows from this one on are written
-pub record PrintsRows (input : List ℕ) (sweep : Sweep) (form : RowForm) (first count : ℕ)
+pub record PrintsRows (input : List ℕ) (sweep : Sweep) (program : List ℕ) (form : RowForm) (first count : ℕ)
     (before after : Option (List ℕ)) : Type 0 where
   pub texts : List (List ℕ)
   pub many : length texts ≡ count
-  pub rows : AreRows input sweep form first texts
+  pub rows : AreRows input sweep program form first texts
   pub printed : Appends before after (concat texts)
 
 -- all rows are written, and what stands behind them
-pub record PrintsSweep (input : List ℕ) (sweep : Sweep) (form : RowForm) (count : ℕ)
+pub record PrintsSweep (input : List ℕ) (sweep : Sweep) (program : List ℕ) (form : RowForm) (count : ℕ)
     (before after : Option (List ℕ)) : Type 0 where
   pub texts : List (List ℕ)
   pub many : length texts ≡ count
-  pub rows : AreRows input sweep form 0 texts
-  pub printed : Appends before after (concat texts ++ foot_of form)
+  pub rows : AreRows input sweep program form 0 texts
+  pub printed : Appends before after (concat texts ++ end_of form)
 
 -- what making a row comes to, where it comes to one
-abbrev pub MakesRow : List ℕ → Sweep → RowForm → ℕ → Result (Vec ℕ) Refusal → Type 0
-MakesRow input sweep form row made = IfOk made (λ text. IsRow input sweep form row text.items)
+abbrev pub MakesRow : List ℕ → Sweep → ℕ → Result Row Refusal → Type 0
+MakesRow input sweep number made = IfOk made (HasRun input sweep number)
 
--- each of these, from this row on
-abbrev pub MakesRows : List ℕ → Sweep → RowForm → ℕ → List (Result (Vec ℕ) Refusal) → Type 0
-MakesRows input sweep form first made =
-    (place : ℕ) (d : Result (Vec ℕ) Refusal) → place < length made
-    → MakesRow input sweep form (first + place) (slice_index_or made place d)
+-- each of so many of these, from this row on
+abbrev pub MakesRows : List ℕ → Sweep → ℕ → ℕ → List (Result Row Refusal) → Type 0
+MakesRows input sweep first count made =
+    (place : ℕ) (d : Result Row Refusal) → place < count
+    → MakesRow input sweep (first + place) (slice_index_or made place d)
+
+-- want of memory is told as such, and not as a row's refusal
+abbrev pub IsRowFault : RowFault → Type 0
+IsRowFault (row_faults.Row row refusal) = refusal ≢ refusals.Text text_faults.NoMemory
+IsRowFault fault = Unit {0}

@@ -16,6 +16,8 @@ pub enum SweepFault<'a> {
     AddsUp(&'a str),
     #[error("--set {name}: '{value}' is none of its values")]
     BadValue { name: &'a str, value: &'a str },
+    #[error("--set {name}: '{value}' is given twice")]
+    SameValue { name: &'a str, value: &'a str },
     #[error("--set {0}: given twice")]
     Twice(&'a str),
     #[error("--seeds {0}: not FIRST..LAST")]

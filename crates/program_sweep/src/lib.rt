@@ -6,24 +6,32 @@
 //!
 //! - src/setting.rt and src/seeds.rt: what varies. src/place.rt: which value and which seed a row has.
 //! - src/text.rt: a text with other settings (`with_settings` of specs/Text.antt).
-//! - src/row.rt: the row of a run, from the run's report (`row_of` of specs/Row.antt).
+//! - src/row.rt: what a run says (`row_of` of specs/Row.antt). src/cell.rt: the columns of rows (`all_cells`, `name_of`
+//!   and `value_in` of specs/Cell.antt).
+//! - src/form.rt: the text of rows (`text_of_row` of specs/Form.antt). src/quote.rt: the program's name, as they have it.
 //! - src/sweep.rt: the rows, side by side.
 //!
-//! [`run_sweep`] is proved to print, in order, the row of each run: the settings, the seed, and the counts that the
-//! report of `program_run` has of that run of the text with these settings (`AreRows` of specs/Sweep.antt).
+//! [`run_sweep`] is proved to print, in order, the row of each run: the program's name, the settings, the seed, and the
+//! sums that `program_run` counts in that run of the text with these settings (`AreRows` of specs/Sweep.antt).
 //!
-//! A run's machine takes memory, and as many runs are under way as [`RUNS_PER_PROCESSOR`] times the processors.
+//! A run's machine takes memory, and as many runs are under way as there are processors. Rows are written once each
+//! thread has made its share of a few: one run at first, and then as many as make some thousands of accesses, at most
+//! [`MOST_RUNS`].
 #![tactic(auto)]
 
 pub use fault::{Refusal, RowFault, SweepFault};
-pub use row::RowForm;
+pub use form::RowForm;
+pub use quote::program_name;
 pub use seeds::Seeds;
 pub use setting::Setting;
-pub use sweep::{MOST_ROWS, RUNS_PER_PROCESSOR, Sweep, run_sweep};
+pub use sweep::{MOST_ROWS, MOST_RUNS, Sweep, run_sweep};
 
+mod cell;
 mod fault;
+mod form;
 mod name;
 mod place;
+mod quote;
 mod row;
 mod seeds;
 mod setting;

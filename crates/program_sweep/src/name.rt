@@ -1,6 +1,5 @@
 //! The names of settings: the words with which the lines begin that configure a machine, and one more.
 ghost use Rattle.std.specs.Prelude.{◌≡◌};
-ghost use Rattle.program_sweep.specs.Row.{column_of};
 ghost use Rattle.program_sweep.specs.Text.{is_name, is_outstanding, may_vary, replaces};
 
 use litmus_text::value_named;
@@ -24,9 +23,6 @@ static NAMES: [(&[u8], bool); 13] = [
 
 /// How many accesses of a core may be under way, which no line says that configures.
 static OUTSTANDING: [(&[u8], bool); 1] = [(b"outstanding", true)];
-
-/// The kind of miss file. A count is named so too, of which each row has a column.
-static MISSES: [(&[u8], bool); 1] = [(b"misses", true)];
 
 /// Whether a line that begins with the word configures, or would if it were well formed.
 pub(crate) fn is_name(word: &[u8]) -> bool
@@ -55,15 +51,4 @@ pub(crate) fn is_outstanding(name: &[u8]) -> bool
     ensures { result ≡ is_outstanding name.now }
 {
     value_named(&OUTSTANDING, name).is_some()
-}
-
-/// The name of a setting's column.
-pub(crate) fn column_of(name: &str) -> &str
-    ensures { result.now ≡ column_of name.now }
-{
-    if value_named(&MISSES, name.as_bytes()).is_some() {
-        "miss_file"
-    } else {
-        name
-    }
 }

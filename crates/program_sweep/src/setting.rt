@@ -84,6 +84,9 @@ fn push_value<'a>(
     if !is_value(alloc, name, value)? {
         return Err(SweepFault::BadValue { name, value });
     }
+    if values.as_slice().iter().any(|other| *other == value) {
+        return Err(SweepFault::SameValue { name, value });
+    }
     values.push(value)?;
     Ok(())
 }

@@ -1,19 +1,23 @@
-ghost use Rattle.std.specs.Prelude.{◌≡◌, ◌+◌, ◌<◌, ◌≤◌, ◌^◌, IfOk, IfSome, OnOk, length, map};
-ghost use Rattle.std.specs.Io.KnownBytes.{Appends};
+ghost use Rattle.std.specs.Prelude.{◌≡◌, ◌+◌, ◌<◌, ◌≤◌, ◌^◌, IfErr, IfOk, IfSome, OnOk, length, map};
+ghost use Rattle.std.specs.Io.KnownBytes.{Appends, Keeps};
 ghost use Rattle.std.specs.Str.Lines.{lines};
-ghost use Rattle.program_sweep.specs.Sweep.{IsReport, MakesRow, MakesRows, PrintsRows, PrintsSweep};
+ghost use Rattle.program_text.specs.Fault.{IsProgramText, programs_of, settings_of};
+ghost use Rattle.program_sweep.specs.Sweep.{IsRowFault, IsRowOf, MakesRow, MakesRows, PrintsRows, PrintsSweep};
 ghost use Rattle.program_sweep.specs.Read.{AreSettings, IsSweep, counts_of, rows_of, spans_of, values_of};
+ghost use Rattle.program_sweep.specs.Form.{text_of_row};
 ghost use Rattle.program_sweep.specs.Text.{IsOutstandingIn, lines_of_settings, with_settings};
 
 use super::fault::{Refusal, RowFault, SweepFault};
+use super::form::{RowForm, end_of, push_row};
 use super::name::is_outstanding;
-use super::row::{RowForm, foot_of, push_row};
+use super::row::{Row, row_of};
 use super::seeds::Seeds;
 use super::setting::Setting;
 use super::text::{configures, with_settings};
 use litmus_test::Progress;
 use litmus_text::{Lines, TextFault, parse_number};
-use program_run::{Form, run_programs};
+use program_run::{count_programs, limit};
+use program_text::Programs;
 use stats_report::write_text;
 use std::alloc::{AllocError, Global};
 use std::io::Write;
@@ -23,8 +27,12 @@ use std::{fmt, thread};
 /// The most rows of a sweep.
 pub const MOST_ROWS: u64 = 1_000_000;
 
-/// How many runs are under way for each processor: where some take longer than others, none is idle for long.
-pub const RUNS_PER_PROCESSOR: u64 = 4;
+/// The most runs that a thread makes before their rows are written.
+pub const MOST_RUNS: u64 = 64;
+
+/// How many accesses a thread makes before rows are written, in runs of as many as those before: to start a thread takes
+/// as long as some thousands.
+const ACCESSES: u64 = 20_000;
 
 /// Which runs there are: one for each combination of values, in the order given, the last setting fastest, and for each
 /// seed, which is faster still.
@@ -117,115 +125,209 @@ fn read_settings<'a>(
     Ok(settings)
 }
 
-/// Runs the text once for each row, side by side, and prints the rows. A text that can't be run with some settings ends
-/// the rows before them.
+/// Runs the text once for each row, side by side, and writes the rows, those that are made together as soon as they are.
+/// The program's name stands in each as the form writes it. A text that can't be run with some settings ends the rows
+/// before them.
 pub fn run_sweep<R: Threads + Sync, P: Progress, W: Write>(
     alloc: Global,
     rt: &R,
     input: &[u8],
     sweep: &Sweep<'_>,
+    program: &[u8],
     form: RowForm,
     progress: &mut P,
     out: &mut W,
 ) -> Result<(), RowFault>
-    ensures { OnOk result
-        (PrintsSweep input.now sweep.now form sweep.now.rows (W.contents out.old) (W.contents out.new)) }
+    ensures printed { OnOk result (PrintsSweep input.now sweep.now program.now form sweep.now.rows
+        (W.contents out.old) (W.contents out.new)) }
+    ensures fault { IfErr result IsRowFault }
 {
-    let batch = runs_at_once(rt);
+    let threads = threads_of(rt);
     let rows = sweep.rows;
     let mut first = 0;
+    let mut share = 1;
     while first < rows {
-        let count = batch.min(rows - first);
-        run_batch(alloc, rt, input, sweep, form, first, count, out)?;
+        let count = (threads as u64)
+            .saturating_mul(share)
+            .max(1)
+            .min(rows - first);
+        share = run_batch(
+            alloc, rt, threads, input, sweep, program, form, first, count, out,
+        )?;
         first += count;
         progress.done(first, rows);
     }
-    match write_text(out, foot_of(form)) {
-        Ok(()) => Ok(()),
-        Err(_) => Err(RowFault::CannotWrite),
-    }
+    write(out, end_of(form))
 }
 
-fn runs_at_once<R: Threads>(rt: &R) -> u64
+fn threads_of<R: Threads>(rt: &R) -> usize
     ensures { 0 < result }
 {
     match thread::available_parallelism(rt) {
-        Ok(processors) => (processors.get() as u64)
-            .saturating_mul(RUNS_PER_PROCESSOR)
-            .max(1),
-        Err(_) => RUNS_PER_PROCESSOR,
+        Ok(processors) => processors.get().max(1),
+        Err(_) => 1,
     }
 }
 
-// Makes these rows side by side, and prints them.
+// Makes these rows side by side, and writes them. Returns how many of the next ones each thread may make.
 fn run_batch<R: Threads + Sync, W: Write>(
     alloc: Global,
     rt: &R,
+    threads: usize,
     input: &[u8],
     sweep: &Sweep<'_>,
+    program: &[u8],
     form: RowForm,
     first: u64,
     count: u64,
     out: &mut W,
-) -> Result<(), RowFault>
+) -> Result<u64, RowFault>
+    requires threads { 0 < threads }
     requires within { first + count ≤ sweep.now.rows }
     requires fits { first + count < 2 ^ 64 }
-    ensures { OnOk result
-        (PrintsRows input.now sweep.now form first count (W.contents out.old) (W.contents out.new)) }
+    ensures printed { OnOk result (PrintsRows input.now sweep.now program.now form first count
+        (W.contents out.old) (W.contents out.new)) }
+    ensures fault { IfErr result IsRowFault }
 {
-    let made = make_rows(alloc, rt, input, sweep, form, first, count)?;
-    print_rows(made.as_slice(), input, sweep, form, first, out)
+    let made = make_rows(alloc, rt, threads, input, sweep, first, count)?;
+    let rows = made.as_slice();
+    print_rows(alloc, rows, input, sweep, program, form, first, out)?;
+    flush(out)?;
+    Ok(share_behind(rows))
 }
 
 fn make_rows<R: Threads + Sync>(
     alloc: Global,
     rt: &R,
+    threads: usize,
     input: &[u8],
     sweep: &Sweep<'_>,
-    form: RowForm,
     first: u64,
     count: u64,
-) -> Result<Vec<Result<Vec<u8>, Refusal>>, AllocError>
-    requires { first + count < 2 ^ 64 }
+) -> Result<Vec<Result<Row, Refusal>>, AllocError>
+    requires threads { 0 < threads }
+    requires fits { first + count < 2 ^ 64 }
     ensures len { IfOk result (λ made. length made.items ≡ count) }
-    ensures each { IfOk result (λ made. MakesRows input.now sweep.now form first made.items) }
+    ensures each { IfOk result (λ made. MakesRows input.now sweep.now first count made.items) }
 {
-    thread::map_indices(
-        rt,
-        alloc,
-        count as usize,
-        &|place: usize| -> Result<Vec<u8>, Refusal>
-            requires { first + place < 2 ^ 64 }
-            ensures { MakesRow input.entry.now sweep.entry.now form (first + place) result }
-        { make_row(alloc, input, sweep, form, first + place as u64) },
-    )
+    let mut made = vec![in alloc; Err(Refusal::Stuck); count as usize]?;
+    fill_rows(alloc, rt, threads, input, sweep, first, made.as_mut_slice());
+    Ok(made)
 }
 
-// Prints rows that were made, up to one that has none.
-fn print_rows<W: Write>(
-    made: &[Result<Vec<u8>, Refusal>],
+// Makes each row by its place, in so many threads.
+fn fill_rows<R: Threads + Sync>(
+    alloc: Global,
+    rt: &R,
+    threads: usize,
     input: &[u8],
     sweep: &Sweep<'_>,
+    first: u64,
+    made: &mut [Result<Row, Refusal>],
+)
+    requires threads { 0 < threads }
+    requires fits { first + length made.old < 2 ^ 64 }
+    ensures len { length made.new ≡ length made.old }
+    ensures each { MakesRows input.now sweep.now first (length made.old) made.new }
+{
+    thread::for_each_mut(
+        rt,
+        made,
+        threads,
+        &|place: usize, row: &mut Result<Row, Refusal>|
+            requires { first + place < 2 ^ 64 }
+            ensures { MakesRow input.entry.now sweep.entry.now (first + place) row.new }
+        { *row = make_row(alloc, input, sweep, first + place as u64) },
+    );
+}
+
+// How many runs such as these have as many accesses as a thread makes before rows are written.
+fn share_behind(rows: &[Result<Row, Refusal>]) -> u64 {
+    let Some(last) = rows.last() else {
+        return 1;
+    };
+    match last {
+        Ok(row) => (ACCESSES / row.sums.counts.requests().max(1))
+            .max(1)
+            .min(MOST_RUNS),
+        Err(_) => 1,
+    }
+}
+
+// Writes rows that were made, up to one that has none.
+fn print_rows<W: Write>(
+    alloc: Global,
+    made: &[Result<Row, Refusal>],
+    input: &[u8],
+    sweep: &Sweep<'_>,
+    program: &[u8],
     form: RowForm,
     first: u64,
     out: &mut W,
 ) -> Result<(), RowFault>
-    requires made { MakesRows input.now sweep.now form first made.now }
+    requires made { MakesRows input.now sweep.now first (length made.now) made.now }
     requires within { first + length made.now ≤ sweep.now.rows }
-    ensures { OnOk result
-        (PrintsRows input.now sweep.now form first (length made.now) (W.contents out.old) (W.contents out.new)) }
+    ensures printed { OnOk result (PrintsRows input.now sweep.now program.now form first (length made.now)
+        (W.contents out.old) (W.contents out.new)) }
+    ensures fault { IfErr result IsRowFault }
 {
     for place in 0..made.len() {
-        match &made[place] {
-            Ok(text) => print_row(text.as_slice(), out)?,
-            Err(refusal) => return Err(refused(first + place as u64, *refusal)),
-        }
+        let number = first + place as u64;
+        print_made(
+            alloc,
+            &made[place],
+            input,
+            sweep,
+            program,
+            form,
+            number,
+            out,
+        )?;
     }
     Ok(())
 }
 
-fn print_row<W: Write>(text: &[u8], out: &mut W) -> Result<(), RowFault>
-    ensures { OnOk result (Appends (W.contents out.old) (W.contents out.new) text.now) }
+fn print_made<W: Write>(
+    alloc: Global,
+    made: &Result<Row, Refusal>,
+    input: &[u8],
+    sweep: &Sweep<'_>,
+    program: &[u8],
+    form: RowForm,
+    number: u64,
+    out: &mut W,
+) -> Result<(), RowFault>
+    requires { MakesRow input.now sweep.now number made.now }
+    ensures printed { OnOk result (PrintsRows input.now sweep.now program.now form number 1
+        (W.contents out.old) (W.contents out.new)) }
+    ensures fault { IfErr result IsRowFault }
+{
+    match made {
+        Ok(row) => print_row(alloc, form, program, number, row, out),
+        Err(refusal) => Err(refused(number, *refusal)),
+    }
+}
+
+fn print_row<W: Write>(
+    alloc: Global,
+    form: RowForm,
+    program: &[u8],
+    number: u64,
+    row: &Row,
+    out: &mut W,
+) -> Result<(), RowFault>
+    ensures printed { OnOk result (Appends (W.contents out.old) (W.contents out.new)
+        (text_of_row form program.now number row.now)) }
+    ensures fault { IfErr result IsRowFault }
+{
+    let mut text = Vec::new(alloc);
+    push_row(&mut text, form, program, number, row)?;
+    write(out, text.as_slice())
+}
+
+fn write<W: Write>(out: &mut W, text: &[u8]) -> Result<(), RowFault>
+    ensures printed { OnOk result (Appends (W.contents out.old) (W.contents out.new) text.now) }
+    ensures fault { IfErr result IsRowFault }
 {
     match write_text(out, text) {
         Ok(()) => Ok(()),
@@ -233,30 +335,62 @@ fn print_row<W: Write>(text: &[u8], out: &mut W) -> Result<(), RowFault>
     }
 }
 
-fn refused(row: u64, refusal: Refusal) -> RowFault {
+fn flush<W: Write>(out: &mut W) -> Result<(), RowFault>
+    ensures kept { OnOk result (Keeps (W.contents out.old) (W.contents out.new)) }
+    ensures fault { IfErr result IsRowFault }
+{
+    match out.flush() {
+        Ok(()) => Ok(()),
+        Err(_) => Err(RowFault::CannotWrite),
+    }
+}
+
+fn refused(row: u64, refusal: Refusal) -> RowFault
+    ensures { IsRowFault result }
+{
     match refusal {
         Refusal::Text(TextFault::NoMemory) => RowFault::NoMemory,
         _ => RowFault::Row { row, refusal },
     }
 }
 
-// Runs the text with the settings and the seed of a row, and makes the row.
-fn make_row(
-    alloc: Global,
-    input: &[u8],
-    sweep: &Sweep<'_>,
-    form: RowForm,
-    row: u64,
-) -> Result<Vec<u8>, Refusal>
-    ensures { MakesRow input.now sweep.now form row result }
+// Runs the text with the settings and the seed of a row.
+fn make_row(alloc: Global, input: &[u8], sweep: &Sweep<'_>, number: u64) -> Result<Row, Refusal>
+    ensures { MakesRow input.now sweep.now number result }
 {
     let settings = sweep.settings.as_slice();
-    let seed = sweep.seeds.seed_in(row);
-    let most = outstanding_in(settings, sweep.outstanding, row);
-    let report = report_of(alloc, input, settings, most, row, seed)?;
-    let mut text = Vec::new(alloc);
-    push_row(&mut text, form, settings, row, seed, report.as_slice())?;
-    Ok(text)
+    let seed = sweep.seeds.seed_in(number);
+    let most = outstanding_in(settings, sweep.outstanding, number);
+    let mut programs = read_programs(alloc, input, settings, number)?;
+    limit(&mut programs, most);
+    run_row(alloc, &programs, seed)
+}
+
+// Reads the text with the settings of a row.
+fn read_programs(
+    alloc: Global,
+    input: &[u8],
+    settings: &[Setting<'_>],
+    number: u64,
+) -> Result<Programs, Refusal>
+    ensures { IfOk result (λ programs. IsProgramText
+        (with_settings (lines_of_settings settings.now number) (lines input.now))
+        (settings_of programs) programs.outstanding (programs_of programs)) }
+{
+    let text = with_settings(alloc, input, settings, number)?;
+    match Programs::read(alloc, text.as_slice()) {
+        Ok(programs) => Ok(programs),
+        Err(fault) => Err(Refusal::Text(in_input(input, lines_added(settings), fault))),
+    }
+}
+
+fn run_row(alloc: Global, programs: &Programs, seed: u64) -> Result<Row, Refusal>
+    ensures { IfOk result (IsRowOf programs.now seed) }
+{
+    match count_programs(alloc, programs, seed)? {
+        Some(sums) => Ok(row_of(programs, seed, sums)),
+        None => Err(Refusal::Stuck),
+    }
 }
 
 // How many accesses of a core may be under way in a row, where a setting or the command line says so.
@@ -269,34 +403,6 @@ fn outstanding_in(settings: &[Setting<'_>], given: Option<u64>, row: u64) -> Opt
         }
     }
     given
-}
-
-fn report_of(
-    alloc: Global,
-    input: &[u8],
-    settings: &[Setting<'_>],
-    outstanding: Option<u64>,
-    row: u64,
-    seed: u64,
-) -> Result<Vec<u8>, Refusal>
-    ensures { IfOk result (λ report.
-        IsReport (with_settings (lines_of_settings settings.now row) (lines input.now)) outstanding seed
-        report.items) }
-{
-    let text = with_settings(alloc, input, settings, row)?;
-    let mut report = Vec::new(alloc);
-    match run_programs(
-        alloc,
-        text.as_slice(),
-        outstanding,
-        seed,
-        Form::Json,
-        &mut report,
-    ) {
-        Ok(0) => Ok(report),
-        Ok(_) => Err(Refusal::Stuck),
-        Err(fault) => Err(Refusal::Text(in_input(input, lines_added(settings), fault))),
-    }
 }
 
 // How many lines the settings add.

@@ -130,11 +130,12 @@ core and for each line. A miss is counted by its cause: cold (the core never had
 (it gave the line up), upgrade (it may read the line and is to write it), and true or false (it lost
 the line to another's write; true where another core wrote the very word since).
 
-With --set, --seeds or --csv each combination of values and seeds is a run, and each run a row: its
-settings, its seed, and the sums over all lines. A setting is cores, slices, lines, sets, ways,
+With --set, --seeds or --csv each combination of values and seeds is a run, and each run a row: FILE,
+all settings, the seed, and the sums over all lines. A setting is cores, slices, lines, sets, ways,
 mshrs, targets, writebacks, policy, misses, exclusive or outstanding, and takes the place of the
 text's. The last setting varies fastest, and the seeds faster still. Runs are side by side on all
-processors. With --json the rows are one value of JSON.
+processors. With --json the rows are one value of JSON. In rows and in JSON the names of columns say
+what they count: true is misses_true_sharing there, and register stalls_register.
 
 With '--seed 5 --script' the run of that seed is printed, as a script for 'lockup script', 'lockup
 chart' and 'lockup page', and with '--seed 5 --page' as a page, which a browser steps through.

@@ -6,7 +6,8 @@ use Rattle.program_sweep.proofs.sweep.run_sweep.Given as goal
 abbrev pub invariant-loop-first : goal.invariant-loop-first
 invariant-loop-first g l = record {
   within : l.first ≤ l.sweep.rows;
-  printed : PrintsRows l.input l.sweep l.form 0 l.first (g.W.Write.contents l.fn.out) (g.W.Write.contents l.out);
+  printed : PrintsRows l.input l.sweep l.program l.form 0 l.first (g.W.Write.contents l.fn.out)
+      (g.W.Write.contents l.out);
 }
 
 abbrev pub decreases-loop-first : goal.decreases-loop-first

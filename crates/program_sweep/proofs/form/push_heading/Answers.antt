@@ -1,0 +1,9 @@
+use Rattle.std.proofs.lemmas.Result.{on_ok_weaker}
+use Rattle.program_sweep.proofs.RowLemmas.{three_pieces}
+use Rattle.program_sweep.proofs.form.push_heading.Goals as goal
+
+pub returns : goal.returns
+returns c =
+    on_ok_weaker c.push-2.result
+    (λ last. three_pieces c.args.out.now.items _ _ _ _ _ _ c.in_ok-push.ensures c.in_ok-push_all.ensures last)
+    c.push-2.ensures

@@ -1,10 +1,10 @@
-ghost use Rattle.std.specs.Prelude.{◌≡◌, [], IfErr, IfOk, OnOk, false, true};
+ghost use Rattle.std.specs.Prelude.{◌≡◌, [], IfErr, IfOk, OnOk};
 ghost use Rattle.std.specs.Fmt.{WritesInCalls};
 ghost use Rattle.std.specs.Io.KnownBytes.{Appends};
-ghost use Rattle.litmus.specs.Check.{IsChecked, IsExplained, IsNotChecked, json_of_verdict, status_of};
-ghost use Rattle.litmus.specs.Check.{text_of_reason, text_of_verdict, told_of};
+ghost use Rattle.litmus.specs.Check.{IsChecked, IsCheckedAsJson, IsExplained, IsNotChecked, json_of_verdict, status_of};
+ghost use Rattle.litmus.specs.Check.{text_of_reason, text_of_verdict};
 
-use super::wrong_entry::{Members, wrong_entry_at};
+use super::wrong_entry::{Members, WrongEntry, wrong_entry_at};
 use litmus_script::TextWriter;
 use litmus_text::TextFault;
 use std::alloc::{AllocError, Global};
@@ -14,11 +14,11 @@ use trace_check::{Reason, Verdict, check_trace};
 
 /// Judges a trace, and prints the verdict as a line of text. Returns the exit status.
 pub fn run_check<W: Write>(alloc: Global, input: &[u8], out: &mut W) -> Result<u8, TextFault>
-    ensures checked { IfOk result (IsChecked input.now false [] (W.contents out.old) (W.contents out.new)) }
+    ensures checked { IfOk result (IsChecked input.now (text_of_verdict []) (W.contents out.old) (W.contents out.new)) }
     ensures fault { IfErr result (IsNotChecked input.now) }
 {
     let verdict = check_trace(alloc, input)?;
-    print_verdict(verdict, false, "", out)?;
+    print_text(verdict, "", out)?;
     Ok(status_of(verdict))
 }
 
@@ -29,94 +29,95 @@ pub fn run_check_explained<W: Write>(
     input: &[u8],
     out: &mut W,
 ) -> Result<u8, TextFault>
-    ensures checked { IfOk result (IsExplained input.now false (W.contents out.old) (W.contents out.new)) }
+    ensures checked { IfOk result (IsExplained input.now (W.contents out.old) (W.contents out.new)) }
     ensures fault { IfErr result (IsNotChecked input.now) }
 {
-    explain(alloc, input, false, out)
+    let verdict = check_trace(alloc, input)?;
+    let more = explanation(alloc, input, verdict)?;
+    print_text(verdict, more.as_str(), out)?;
+    Ok(status_of(verdict))
 }
 
 /// Judges a trace, and prints the verdict as a value of JSON, with what was expected of an entry at fault. Returns the
 /// exit status.
 pub fn run_check_json<W: Write>(alloc: Global, input: &[u8], out: &mut W) -> Result<u8, TextFault>
-    ensures checked { IfOk result (IsExplained input.now true (W.contents out.old) (W.contents out.new)) }
+    ensures checked { IfOk result (IsCheckedAsJson input.now (W.contents out.old) (W.contents out.new)) }
     ensures fault { IfErr result (IsNotChecked input.now) }
 {
-    explain(alloc, input, true, out)
+    let verdict = check_trace(alloc, input)?;
+    let wrong = wrong_entry_of(alloc, input, verdict)?;
+    print_json(verdict, wrong, out)?;
+    Ok(status_of(verdict))
 }
 
-fn explain<W: Write>(alloc: Global, input: &[u8], json: bool, out: &mut W) -> Result<u8, TextFault>
-    ensures checked { IfOk result (IsExplained input.now json (W.contents out.old) (W.contents out.new)) }
-    ensures fault { IfErr result (IsNotChecked input.now) }
-{
-    let judged = check_trace(alloc, input)?;
-    let more = explanation(alloc, input, judged, json)?;
-    print_verdict(judged, json, more.as_str(), out)?;
-    Ok(status_of(judged))
-}
-
-/// What follows an entry's reason: what was expected of it. No contract says what that is.
-fn explanation(
+/// The entry at fault, if the trace isn't legal.
+fn wrong_entry_of(
     alloc: Global,
     input: &[u8],
     verdict: Verdict,
-    json: bool,
-) -> Result<String, AllocError> {
-    let Verdict::Illegal(number, reason) = verdict else {
-        return Ok(String::new(alloc));
-    };
-    match wrong_entry_at(alloc, input, number, reason)? {
-        Some(wrong) if json => {
-            let members = Members(wrong);
-            format!(in alloc; "{members}")
-        }
+) -> Result<Option<WrongEntry>, AllocError> {
+    match verdict {
+        Verdict::Legal(_) => Ok(None),
+        Verdict::Illegal(number, reason) => wrong_entry_at(alloc, input, number, reason),
+    }
+}
+
+/// What follows an entry's reason: what was expected of it.
+fn explanation(alloc: Global, input: &[u8], verdict: Verdict) -> Result<String, AllocError> {
+    match wrong_entry_of(alloc, input, verdict)? {
         Some(wrong) => format!(in alloc; "   {wrong}"),
         None => Ok(String::new(alloc)),
     }
 }
 
-fn print_verdict<W: Write>(
-    verdict: Verdict,
-    json: bool,
-    more: &str,
-    out: &mut W,
-) -> Result<(), TextFault>
-    ensures printed { OnOk result (Appends (W.contents out.old) (W.contents out.new) (told_of json verdict more.now)) }
+fn print_text<W: Write>(verdict: Verdict, more: &str, out: &mut W) -> Result<(), TextFault>
+    ensures printed { OnOk result (Appends (W.contents out.old) (W.contents out.new) (text_of_verdict more.now verdict)) }
     ensures fault { IfErr result (λ fault. fault ≡ TextFault.CannotWrite) }
 {
     let mut answers = TextWriter { out };
-    match write_told(verdict, json, more, &mut answers) {
+    match write_text(verdict, more, &mut answers) {
         Ok(()) => Ok(()),
         Err(_) => Err(TextFault::CannotWrite),
     }
 }
 
-fn write_told<W: fmt::Write>(verdict: Verdict, json: bool, more: &str, out: &mut W) -> fmt::Result
-    ensures { OnOk result (WritesInCalls W.write_str_gives out.old (told_of json verdict more.now) out.new) }
+fn print_json<W: Write>(
+    verdict: Verdict,
+    wrong: Option<WrongEntry>,
+    out: &mut W,
+) -> Result<(), TextFault>
+    ensures printed { OnOk result (Appends (W.contents out.old) (W.contents out.new) (json_of_verdict wrong verdict)) }
+    ensures fault { IfErr result (λ fault. fault ≡ TextFault.CannotWrite) }
 {
-    if json {
-        write_json(verdict, more, out)
-    } else {
-        write_verdict(verdict, more, out)
+    let mut answers = TextWriter { out };
+    match write_json(verdict, wrong, &mut answers) {
+        Ok(()) => Ok(()),
+        Err(_) => Err(TextFault::CannotWrite),
     }
 }
 
-fn write_json<W: fmt::Write>(verdict: Verdict, more: &str, out: &mut W) -> fmt::Result
-    ensures { OnOk result (WritesInCalls W.write_str_gives out.old (json_of_verdict verdict more.now) out.new) }
+fn write_json<W: fmt::Write>(
+    verdict: Verdict,
+    wrong: Option<WrongEntry>,
+    out: &mut W,
+) -> fmt::Result
+    ensures { OnOk result (WritesInCalls W.write_str_gives out.old (json_of_verdict wrong verdict) out.new) }
 {
     match verdict {
         Verdict::Legal(entries) => writeln!(out, "{{\"legal\":true,\"entries\":{entries}}}"),
         Verdict::Illegal(entry, reason) => {
             let word = word_of(reason);
+            let members = Members(wrong);
             writeln!(
                 out,
-                "{{\"legal\":false,\"entry\":{entry},\"reason\":\"{word}\"{more}}}"
+                "{{\"legal\":false,\"entry\":{entry},\"reason\":\"{word}\"{members}}}"
             )
         }
     }
 }
 
-fn write_verdict<W: fmt::Write>(verdict: Verdict, more: &str, out: &mut W) -> fmt::Result
-    ensures { OnOk result (WritesInCalls W.write_str_gives out.old (text_of_verdict verdict more.now) out.new) }
+fn write_text<W: fmt::Write>(verdict: Verdict, more: &str, out: &mut W) -> fmt::Result
+    ensures { OnOk result (WritesInCalls W.write_str_gives out.old (text_of_verdict more.now verdict) out.new) }
 {
     match verdict {
         Verdict::Legal(entries) => writeln!(out, "legal {entries} entries"),

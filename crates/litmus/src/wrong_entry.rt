@@ -290,35 +290,66 @@ impl fmt::Display for Earlier {
     }
 }
 
-/// The same as members of an object of JSON. Words are strings, since they have 64 bits.
+/// The same as members of an object of JSON, and nothing where there is none. Words are strings, since they have 64 bits.
 #[derive(Clone, Copy)]
-pub(super) struct Members(pub WrongEntry);
+pub(super) struct Members(pub Option<WrongEntry>);
 
 impl fmt::Display for Members {
+    ghost use Rattle.std.specs.Prelude.{Some};
+    ghost use Rattle.litmus.specs.Check.{members_of};
+
+    ghost output = { λ members. Some (members_of members.0) };
+
     fn fmt<W: fmt::Write>(&self, f: &mut fmt::Formatter<W>) -> fmt::Result {
-        let line = self.0.line;
-        write!(f, ",\"line\":{line}")?;
-        match self.0.cause {
+        match self.0 {
+            Some(WrongEntry { line, cause }) => {
+                let members = CauseMembers(cause);
+                write!(f, ",\"line\":{line}{members}")
+            }
+            None => f.write_str(""),
+        }
+    }
+}
+
+#[derive(Clone, Copy)]
+struct CauseMembers(Cause);
+
+impl fmt::Display for CauseMembers {
+    ghost use Rattle.std.specs.Prelude.{Some};
+    ghost use Rattle.litmus.specs.Check.{members_of_cause};
+
+    ghost output = { λ members. Some (members_of_cause members.0) };
+
+    fn fmt<W: fmt::Write>(&self, f: &mut fmt::Formatter<W>) -> fmt::Result {
+        match self.0 {
             Cause::Store => f.write_str(",\"expected\":\"0\""),
             Cause::Value { expected, source } => {
-                write!(f, ",\"expected\":\"{expected}\"")?;
-                write_source(source, f)
+                let writer = Writer(source);
+                write!(f, ",\"expected\":\"{expected}\",\"written_by\":{writer}")
             }
             Cause::Order { last, .. } => {
                 let number = last.number;
                 write!(f, ",\"earlier_entry\":{number}")
             }
-            Cause::Since { .. } => Ok(()),
+            Cause::Since { .. } => f.write_str(""),
         }
     }
 }
 
-fn write_source<W: fmt::Write>(source: Source, f: &mut fmt::Formatter<W>) -> fmt::Result {
-    match source {
-        Source::Nothing | Source::Initial(_) => f.write_str(",\"written_by\":null"),
-        Source::Entry(entry) => {
-            let number = entry.number;
-            write!(f, ",\"written_by\":{number}")
+/// The entry that wrote a word, or null.
+#[derive(Clone, Copy)]
+struct Writer(Source);
+
+impl fmt::Display for Writer {
+    ghost use Rattle.std.specs.Prelude.{Some};
+    ghost use Rattle.litmus.specs.Check.{text_of_writer};
+
+    ghost output = { λ writer. Some (text_of_writer writer.0) };
+
+    fn fmt<W: fmt::Write>(&self, f: &mut fmt::Formatter<W>) -> fmt::Result {
+        match self.0 {
+            Source::Entry(Earlier { number, .. }) => write!(f, "{number}"),
+            _ => f.write_str("null"),
         }
     }
 }

@@ -1,6 +1,6 @@
 use Rattle.std.proofs.Common.{rules}
 use Rattle.std.proofs.KnownBytes.{Appends-of_writes}
-use Rattle.litmus.proofs.check.print_verdict.Goals as goal
+use Rattle.litmus.proofs.check.print_json.Goals as goal
 
 pub returns-in-Ok-clause-printed : goal.returns-in-Ok-clause-printed
 returns-in-Ok-clause-printed g c =

@@ -57,19 +57,22 @@ class Programs {
 
     // A row of each run, over up to two settings and some seeds.
     async rows() {
-        const varied = ['vary-1', 'vary-2'].filter(it => at(it).value)
-            .flatMap(it => ['--set', `${at(it).value}=${at(it.replace('vary', 'values')).value.replace(/,\s+/g, ',').trim()}`]);
-        const { out, err } = await this.ask(...varied, '--seeds', at('seeds').value.trim() || '1', '--csv');
+        const chosen = ['vary-1', 'vary-2'].filter(it => at(it).value);
+        const valuesOf = it => at(it.replace('vary', 'values')).value.replace(/,\s+/g, ',').trim();
+        const settings = chosen.flatMap(it => ['--set', `${at(it).value}=${valuesOf(it)}`]);
+        const { out, err } = await this.ask(...settings, '--seeds', at('seeds').value.trim() || '1', '--csv');
         this.csv = out;
         const [heading, ...rows] = out.trim().split('\n').map(it => it.split(','));
         at('rows').hidden = rows.length === 0;
         this.tell(err);
         if (rows.length === 0) return;
-        Object.assign(this, { heading, cells: rows });
+        // the column of the setting `misses` has another name than that of the count
+        const varied = chosen.map(it => at(it).value === 'misses' ? 'miss_file' : at(it).value);
+        Object.assign(this, { heading, varied, cells: rows });
         const names = heading.slice(heading.indexOf('seed') + 1);
-        const chosen = names.includes(at('count').value) ? at('count').value : 'misses';
+        const count = names.includes(at('count').value) ? at('count').value : 'misses';
         at('count').replaceChildren(...names.map(it => made('option', '', it)));
-        at('count').value = chosen;
+        at('count').value = count;
         const more = rows.length > SHOWN_ROWS ? [made('p', '', `.. and ${rows.length - SHOWN_ROWS} more rows, in the file`)] : [];
         at('row-table').replaceChildren(tableOf(heading, rows.slice(0, SHOWN_ROWS)), ...more);
         this.plot();
@@ -77,13 +80,14 @@ class Programs {
     }
     // What is counted over the first setting, a line for each value of the others; over the seeds, where no setting varies.
     plot() {
-        const settings = this.heading.indexOf('seed');
-        const count = this.heading.indexOf(at('count').value);
-        const name = row => this.heading.slice(1, settings).map((it, place) => `${it} ${row[place + 1]}`).join(', ');
-        const series = seriesOf(this.cells, row => row[0], name, row => Number(row[count]));
-        const seeds = new Set(this.cells.map(row => row[settings])).size;
-        const means = settings && seeds > 1 ? [`Each point is the mean of ${seeds} seeds, its bar from the least to the most.`] : [];
-        at('plot').replaceChildren(plotOf(series, this.heading[0], at('count').value),
+        const [first = 'seed', ...others] = this.varied;
+        const cell = (row, name) => row[this.heading.indexOf(name)];
+        const name = row => others.map(it => `${it} ${cell(row, it)}`).join(', ');
+        const series = seriesOf(this.cells, row => cell(row, first), name, row => Number(cell(row, at('count').value)));
+        const seeds = new Set(this.cells.map(row => cell(row, 'seed'))).size;
+        const isMean = this.varied.length > 0 && seeds > 1;
+        const means = isMean ? [`Each point is the mean of ${seeds} seeds, its bar from the least to the most.`] : [];
+        at('plot').replaceChildren(plotOf(series, first, at('count').value),
             made('p', 'legend', ...legendOf(series), ...means));
     }
 }

@@ -75,14 +75,20 @@ def test_threads() -> None:
         rounds = int(re.search(r"^rounds (\d+)", read(file), re.M)[1])
         for ran in (one, other):
             *outcomes, forbidden = ran.out.splitlines()
-            same(file.stem, (0, "", "forbidden 0"), (ran.status, ran.err, forbidden))
+            same(file.stem, (0, remark(read(file)), "forbidden 0"), (ran.status, ran.err, forbidden))
             same(f"{file.stem}: rounds", rounds, sum(int(it.split()[0]) for it in outcomes))
             never = {it.split(None, 1)[1] for it in outcomes} - set(read(file.with_suffix(".outcomes")).splitlines())
             same(f"{file.stem}: outcomes that can't be", set(), never)
     # four adds to one word: each finds another count
     for outcome in found[-1].out.splitlines()[:-1]:
         same("replies of the adds", ["0", "1", "2", "3"], sorted(it.split("=")[1] for it in outcome.split()[1:]))
-    same("with movers", (0, ""), (found[-1].status, found[-1].err))
+    same("with movers", (0, remark(movers)), (found[-1].status, found[-1].err))
+
+
+def remark(test: str) -> str:
+    """Returns what standard error is told of a litmus test in which nothing is forbidden."""
+    forbids = re.search(r"^forbid ", test, re.M)
+    return "" if forbids else "lockup: nothing is forbidden: the test has no line 'forbid'\n"
 
 
 # Runs a walk that is watched, and prints what standard error is told.
@@ -102,8 +108,9 @@ fs.writeSync(1, Buffer.concat(told));
 def test_progress() -> None:
     with tempfile.TemporaryDirectory() as room:
         write(f"{room}/watched.mjs", WATCHED % ROOT)
-        ran = run(["node", f"{room}/watched.mjs", folder() / "lockup.wasm", ROOT / "examples/litmus/sb.txt"])
-    same("what is told", (0, "500 of 1200 rounds\r1000 of 1200 rounds\r", ""), tuple(ran))
+        test = ROOT / "examples/litmus/sb.txt"
+        ran = run(["node", f"{room}/watched.mjs", folder() / "lockup.wasm", test])
+    same("what is told", (0, "500 of 1200 rounds\r1000 of 1200 rounds\r" + remark(read(test)), ""), tuple(ran))
 
 
 def drawn(seed: int, count: int) -> str:

@@ -149,7 +149,7 @@ def test_long_numbers_of_scripts() -> None:
 def test_long_numbers_of_litmus_tests() -> None:
     with tempfile.TemporaryDirectory() as room:
         for value in LONG, str(1 << 53), str(SHORT + 1), SHORT:
-            file = write(f"{room}/test.txt", f"lockup-litmus 1\nrounds 1\ninit 0 {value}\nthread 0\nload 0 a\n")
+            file = write(f"{room}/test.txt", f"lockup-litmus 1\nrounds 1\ninit 0 {value}\nthread 0\nload 0 a\nforbid a=7\n")
             for words, seed in (["litmus", file], {}), (["walk", file, "--seed", LONG], {"seed": LONG}):
                 outcome = {"rounds": 1, "values": [value], **seed}
                 same(words[0], [outcome], value_of(words[0], *words)["outcomes"])

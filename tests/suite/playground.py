@@ -26,7 +26,7 @@ from contextlib import contextmanager
 from pathlib import Path
 from typing import Iterator
 
-from harness import ROOT, Different, each, lockup, run, same, seconds, want, write
+from harness import ROOT, Different, each, lockup, read, run, same, seconds, want, write
 from harness.browser import folder
 from harness.chromium import Chromium
 from harness.processes import read
@@ -482,8 +482,9 @@ SHOWN = "(id => [...at(id).querySelectorAll('tr')].map(it => [...it.children].ma
 @seconds(8)
 def test_rows_of_programs() -> None:
     """Over two settings and some seeds: the rows are those of the program, the plot has them, and they are saved."""
-    program = ROOT / "examples/programs/histogram_shared.txt"
-    wanted = lockup("run", program, "--set", "ways=1,2", "--set", "policy=lru,random 7", "--seeds", "1..3", "--csv").out
+    program = read(ROOT / "examples/programs/histogram_shared.txt")
+    settings = ["--set", "ways=1,2", "--set", "policy=lru,random 7", "--seeds", "1..3"]
+    wanted = lockup("run", "-", *settings, "--csv", text=program).out
     with page() as it:
         choose(it, "programs/histogram_shared")
         for name, value in [("vary-1", "ways"), ("values-1", "1, 2"), ("vary-2", "policy"), ("values-2", "lru,random 7"),
@@ -496,8 +497,9 @@ def test_rows_of_programs() -> None:
         names = it.get("[...document.querySelectorAll('.legend .key')].map(it => it.textContent)")
         same("series", ["policy lru", "policy random 7"], names)
         # each point is as high as the mean of its rows
-        misses = heading.index("misses")
-        means = [sum(int(row[misses]) for row in rows if row[:2] == [ways, policy]) / 3
+        columns = [heading.index(it) for it in ("misses", "ways", "policy")]
+        found = [[row[it] for it in columns] for row in rows]
+        means = [sum(int(misses) for misses, *of in found if of == [ways, policy]) / 3
                  for policy in ("lru", "random 7") for ways in ("1", "2")]
         places = it.get("""[...document.querySelectorAll('.plot .point')].map(it => it.getAttribute('transform').match(/[0-9.]+/g)
             .map(Number))""")

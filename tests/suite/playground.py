@@ -402,7 +402,7 @@ def test_many_cores() -> None:
 def test_a_script_that_takes_long() -> None:
     """It is stopped by a button, and the next one is played."""
     with page() as it:
-        it.get("open('pump 1\\n'.repeat(149000))")
+        it.get("open('issue 0 0 load 0\\npump 9\\nhand 0 0\\n' + 'issue 0 0 load 0\\n'.repeat(149000))")
         it.wait("!at('stop').hidden")
         it.click("#stop")
         it.wait("at('fault').textContent === 'stopped'")

@@ -287,19 +287,25 @@ def test_rows_are_run_side_by_side() -> None:
 
 @seconds(4)
 def test_rows_are_written_as_they_are_made() -> None:
-    """The first is there while later ones are still run."""
+    """The first is there while later ones are still run, and a long row waits for those alone that are run beside it."""
     needs_processors()
     is_plain()
-    count = 12 * len(os.sched_getaffinity(0))
+    processors = len(os.sched_getaffinity(0))
+    count = 12 * processors
     text = "cores 1\nlines 2\nsets 1\nways 1\ncore 0\nrepeat 20000\nload 0\nload 8\nend\n"
     with tempfile.TemporaryDirectory() as room:
         file = str(write(f"{room}/file", text))
         with subprocess.Popen([program(), "run", file, "--seeds", f"1..{count}", "--csv"], stdout=subprocess.PIPE) as ran:
-            first = [ran.stdout.readline(), ran.stdout.readline()]
+            lines, first = [ran.stdout.readline() for _ in range(2)], time.monotonic()
             runs_on = ran.poll() is None
-            rest = ran.stdout.readlines()
-        same("status and lines", (0, count + 1), (ran.returncode, len(first) + len(rest)))
+            # the last of these is run once the first ones are written
+            lines += [ran.stdout.readline() for _ in range(processors)]
+            second = time.monotonic()
+            lines += ran.stdout.readlines()
+            last = time.monotonic()
+        same("status and lines", (0, count + 1), (ran.returncode, len(lines)))
         want(runs_on, "it had ended once the first row was there")
+        want(last - second > second - first, "later rows come all at once")
 
 
 @seconds(2)

@@ -207,7 +207,7 @@ class Read:
                               f"seq {it['seq']} since {it['since']}" for it in copy["targets"]]
             for core in range(self.cores):
                 for it in self.parts.get((slice_, core), {"replies": []})["replies"]:
-                    found.append(f"core {core} tag {it['tag']} reply {it['number']}")
+                    found.append(f"core {core} tag {it['tag']} entry {it['number']}")
         return found
 
     def places(self) -> dict[tuple[int, int], tuple[list[int], list[int]]]:
@@ -495,7 +495,7 @@ def check_cores(script: str, at: str, shown: list[str], step: dict[str, Any]) ->
         same(f"what core {core} writes back at {at}", sorted(leaving), sorted(got[core]["leaving"]))
         stay = [it for it in copies if it["state"] not in LEAVING]
         check_sets(shape, f"core {core} at {at}", stay, got[core]["sets"])
-    found = [re.match(r"(core \d+ tag \d+) reply (\d+)", it) for it in shown]
+    found = [re.match(r"(core \d+ tag \d+) entry (\d+)", it) for it in shown]
     replies = [f"{it[1]}, number {it[2]} in the log" for it in found if it]
     same(f"replies at {at}", sorted(replies), sorted(it for it in step["rest"] if it.startswith("core ")))
 

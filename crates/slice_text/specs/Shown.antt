@@ -107,7 +107,7 @@ text_at_line v line = text_of_place v line (local_at v.lines line.0)
 -- a reply that isn't handed out: its number in the log
 abbrev pub text_of_reply : CoreId → ℕ → TagState → List ℕ
 text_of_reply core tag (tag_states.Performed number) =
-    codes "core " ++ decimal core.0 ++ codes " tag " ++ decimal tag ++ codes " reply " ++ decimal number ++ codes "\n"
+    codes "core " ++ decimal core.0 ++ codes " tag " ++ decimal tag ++ codes " entry " ++ decimal number ++ codes "\n"
 text_of_reply core tag state = []
 
 abbrev pub text_under : View → CoreId → ℕ → List ℕ

@@ -62,7 +62,7 @@ fn write_reply<W: Write>(core: CoreId, tag: u8, state: TagState, out: &mut W) ->
 {
     let CoreId(core) = core;
     match state {
-        TagState::Performed(number) => writeln!(out, "core {core} tag {tag} reply {number}"),
+        TagState::Performed(number) => writeln!(out, "core {core} tag {tag} entry {number}"),
         TagState::Free | TagState::Open => Ok(()),
     }
 }

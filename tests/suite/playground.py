@@ -284,6 +284,33 @@ def test_by_keys() -> None:
 
 
 @seconds(5)
+def test_larger_and_smaller() -> None:
+    """By keys, wherever they are pressed, but in a text, which keeps them."""
+    with page() as it:
+        it.do('[data-issue="0 load"]')
+
+        def grows(how: str) -> None:
+            for key, size in (("+", 1.25), ("+", 1.5), ("-", 1.25), ("-", 1)):
+                it.key(key)
+                until = time.monotonic() + 5
+                while it.get_in_frame("zoom") != size:
+                    want(time.monotonic() < until, f"the run isn't as large as {size} after {key} {how}")
+        grows("on a button")
+        for place in ("#word", "#menu", "summary"):
+            it.get(f"document.querySelector({place!r}).focus()")
+            grows(f"in {place}")
+        for place in ("#time", "#step", "#speed"):
+            it.get("document.querySelector('iframe').focus()")
+            it.get_in_frame(f"document.querySelector({place!r}).focus()")
+            grows(f"in {place} of the run")
+        for place in ("#script", "#value"):
+            it.get(f"document.querySelector({place!r}).focus()")
+            it.key("+")
+            it.settle()
+            same(f"in {place}", 1, it.get_in_frame("zoom"))
+
+
+@seconds(5)
 def test_what_one_may_try() -> None:
     """From an empty machine to an upgrade race, a goal at a time; a race that was missed is told."""
     with page() as it:
@@ -629,6 +656,29 @@ def test_a_page_of_a_script() -> None:
             wrong = write(f"{room}/wrong.txt", text) if text else f"{room}/nothing"
             ran = run([ROOT / "tools/browser", "--to", folder(), "--page", wrong])
             want(ran.status == 2 and said in ran.err, f"it says {ran.err!r}")
+
+
+@seconds(8)
+@each(lambda: ["litmus/mp", "programs/ping_pong", "exercises/with_a_mistake"])
+def test_a_page_of_another_text(name: str) -> None:
+    """It opens with what reads the text, beside an empty machine; what is no such text is refused as the program does."""
+    kind, short = name.split("/")
+    area = {"litmus": "litmus-text", "programs": "program-text", "exercises": "exercise-text"}[kind]
+    text = read(ROOT / f"examples/{name}.txt")
+    made = run([ROOT / "tools/browser", "--to", folder(), "--page", ROOT / f"examples/{name}.txt"])
+    same("tools/browser", (0, f"{folder()}/{short}.html\n", ""), tuple(made))
+    with Page() as it:
+        for time_ in ("first", "again"):
+            it.open(f"file://{folder()}/{short}.html")
+            it.wait(f"document.body && document.body.dataset.step && document.body.dataset.tab === '{kind}'")
+            it.settle()
+            same(f"what is opened {time_}", (text, []), (it.get(f"at('{area}').value"), it.commands()))
+    (folder() / f"{short}.html").unlink()
+    with tempfile.TemporaryDirectory() as room:
+        wrong = write(f"{room}/wrong.txt", text + "nothing 1\n")
+        ran = run([ROOT / "tools/browser", "--to", folder(), "--page", wrong])
+        line = text.count("\n") + 1
+        want(ran.status == 2 and f"lockup: line {line}: " in ran.err, f"it says {ran.err!r}")
 
 
 # what came to browsers after 2023

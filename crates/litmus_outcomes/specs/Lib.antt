@@ -1,4 +1,6 @@
 pub mod NamedRequest
 pub mod Table
 pub mod Forbid
+pub mod Form
+pub mod Json
 pub mod Text

@@ -14,8 +14,8 @@ use Rattle.litmus_walk.specs.Walk.{IsWalkOf, WalkView}
 use Rattle.litmus_walk.specs.declared.round.End.{End}
 use Rattle.litmus_walk.specs.declared.round.End.TheVariants as ends
 use Rattle.mshr_file.specs.Miss.{Bound}
-use Rattle.outcomes_json.specs.Form.{text_of_gave_up, text_of_outcomes, text_of_stuck}
-use Rattle.outcomes_json.specs.declared.form.OutcomeForm.{OutcomeForm}
+use Rattle.litmus_outcomes.specs.Form.{text_of_gave_up, text_of_outcomes, text_of_stuck}
+use Rattle.litmus_outcomes.specs.declared.form.OutcomeForm.{OutcomeForm}
 use Rattle.slice_core_plan.specs.View.{IsQuiet}
 
 -- the values are the outcome of the walk that the seed draws on a new machine of the test, with `most` moves at most, in

@@ -6,16 +6,17 @@ ghost use Rattle.litmus_rounds.specs.Outcome.{IsOutcome, all_named_requests};
 ghost use Rattle.litmus_rounds.specs.Run.{HaveEnded, PrintsWalks};
 ghost use Rattle.litmus_script.specs.Machine.{bound_of};
 ghost use Rattle.litmus_script.specs.Play.{IsOfRun};
-ghost use Rattle.outcomes_json.specs.Form.{text_of_gave_up, text_of_outcomes, text_of_stuck};
+ghost use Rattle.litmus_outcomes.specs.Form.{text_of_gave_up, text_of_outcomes, text_of_stuck};
 
 use super::outcome::read_outcome;
-use litmus_outcomes::{NamedRequest, Outcomes};
+use litmus_outcomes::{
+    NamedRequest, OutcomeForm, Outcomes, write_gave_up, write_outcomes, write_stuck,
+};
 use litmus_script::TextWriter;
 use litmus_test::{LitmusTest, Progress};
 use litmus_text::TextFault;
 use litmus_walk::{End, Walked, named_lines, walk};
 use mshr_file::{ExplicitFile, InvertedFile, MissFile, MissKind};
-use outcomes_json::{OutcomeForm, write_gave_up, write_outcomes, write_stuck};
 use std::alloc::{AllocError, Global};
 use std::io::Write;
 

@@ -12,8 +12,8 @@ use Rattle.litmus_threads.specs.Round.{IsFoundOn, IsOutcomeOf, IsRunOf, IsTableF
 use Rattle.litmus_threads.specs.Run.{HasStatus, IsEndOf, IsTold}
 use Rattle.litmus_threads.specs.declared.rounds.Run.{Run}
 use Rattle.litmus_threads.specs.declared.rounds.Run.TheVariants as runs
-use Rattle.outcomes_json.specs.Form.{text_of_outcomes, text_of_stuck}
-use Rattle.outcomes_json.specs.declared.form.OutcomeForm.{OutcomeForm}
+use Rattle.litmus_outcomes.specs.Form.{text_of_outcomes, text_of_stuck}
+use Rattle.litmus_outcomes.specs.declared.form.OutcomeForm.{OutcomeForm}
 
 -- One round more had an outcome of the test, and was counted.
 pub table-more : (test : LitmusTest) (round : ℕ) (old new : TableView) (values shown : List ℕ)

@@ -7,8 +7,8 @@ use Rattle.litmus_test.specs.declared.test.LitmusTest.{LitmusTest}
 use Rattle.litmus_threads.specs.Round.{IsOutcomeOf}
 use Rattle.litmus_threads.specs.declared.rounds.Run.{Run}
 use Rattle.litmus_threads.specs.declared.rounds.Run.TheVariants as runs
-use Rattle.outcomes_json.specs.Form.{text_of_outcomes, text_of_stuck}
-use Rattle.outcomes_json.specs.declared.form.OutcomeForm.{OutcomeForm}
+use Rattle.litmus_outcomes.specs.Form.{text_of_outcomes, text_of_stuck}
+use Rattle.litmus_outcomes.specs.declared.form.OutcomeForm.{OutcomeForm}
 
 -- the exit status where the rounds had these outcomes: 0 where none of them was forbidden
 abbrev pub status_of : LitmusTest → List (List ℕ) → ℕ

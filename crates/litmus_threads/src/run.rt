@@ -5,10 +5,10 @@ ghost use Rattle.litmus_script.specs.Play.{IsOfRun};
 ghost use Rattle.litmus_threads.specs.Run.{HasStatus, IsEndOf, IsTold};
 
 use super::rounds::{Run, run_test};
+use litmus_outcomes::{OutcomeForm, write_outcomes, write_stuck};
 use litmus_script::TextWriter;
 use litmus_test::{LitmusTest, Progress};
 use litmus_text::TextFault;
-use outcomes_json::{OutcomeForm, write_outcomes, write_stuck};
 use std::alloc::Global;
 use std::fmt;
 use std::io::Write;

@@ -2,7 +2,7 @@ use Rattle.std.proofs.Common.{drop, map}
 use Rattle.std.specs.Fmt.{WritesInCalls}
 use Rattle.json_text.specs.List.{with_commas, with_commas_from}
 use Rattle.json_text.specs.Number.{number_of}
-use Rattle.outcomes_json.proofs.json.write_values.Given as goal
+use Rattle.litmus_outcomes.proofs.json.write_values.Given as goal
 
 -- who writes the items that are left has written all
 abbrev pub invariant-loop-value : goal.invariant-loop-value

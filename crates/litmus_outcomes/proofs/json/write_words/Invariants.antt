@@ -1,8 +1,8 @@
 use Rattle.std.proofs.Common.{drop, map}
 use Rattle.std.specs.Fmt.{WritesInCalls}
 use Rattle.json_text.specs.List.{with_commas, with_commas_from}
-use Rattle.outcomes_json.specs.Json.{word_of}
-use Rattle.outcomes_json.proofs.json.write_words.Given as goal
+use Rattle.litmus_outcomes.specs.Json.{word_of}
+use Rattle.litmus_outcomes.proofs.json.write_words.Given as goal
 
 -- who writes the items that are left has written all
 abbrev pub invariant-loop-word : goal.invariant-loop-word

@@ -1,12 +1,13 @@
 -- What is written of the rounds of a litmus test.
 use Rattle.std.specs.Prelude.{ℕ, List, ◌++◌, Option, codes, count_by, decimal}
+use Rattle.json_text.specs.Number.{number_of}
 use Rattle.litmus_outcomes.specs.Forbid.{is_forbidden}
 use Rattle.litmus_outcomes.specs.Table.{RowView}
 use Rattle.litmus_outcomes.specs.Text.{text_of}
 use Rattle.litmus_test.specs.declared.test.LitmusTest.{LitmusTest}
-use Rattle.outcomes_json.specs.Json.{json_of}
-use Rattle.outcomes_json.specs.declared.form.OutcomeForm.{OutcomeForm}
-use Rattle.outcomes_json.specs.declared.form.OutcomeForm.TheVariants as forms
+use Rattle.litmus_outcomes.specs.Json.{json_of}
+use Rattle.litmus_outcomes.specs.declared.form.OutcomeForm.{OutcomeForm}
+use Rattle.litmus_outcomes.specs.declared.form.OutcomeForm.TheVariants as forms
 
 -- the outcomes of rounds, in this form
 abbrev pub text_of_outcomes : OutcomeForm → LitmusTest → Option ℕ → List RowView → List (List ℕ) → List ℕ
@@ -16,11 +17,11 @@ text_of_outcomes forms.Json test seed rows rounds = json_of test seed rows (coun
 -- a round was stuck
 abbrev pub text_of_stuck : OutcomeForm → ℕ → List ℕ
 text_of_stuck forms.Table round = codes "stuck round " ++ decimal round ++ codes "\n"
-text_of_stuck forms.Json round = codes "{\"stuck_round\":" ++ decimal round ++ codes "}\n"
+text_of_stuck forms.Json round = codes "{\"stuck_round\":" ++ number_of round ++ codes "}\n"
 
 -- a round was given up after so many moves
 abbrev pub text_of_gave_up : OutcomeForm → (round moves : ℕ) → List ℕ
 text_of_gave_up forms.Table round moves =
     codes "gave up round " ++ (decimal round ++ (codes " after " ++ (decimal moves ++ codes " moves\n")))
 text_of_gave_up forms.Json round moves =
-    codes "{\"gave_up_round\":" ++ (decimal round ++ (codes ",\"moves\":" ++ (decimal moves ++ codes "}\n")))
+    codes "{\"gave_up_round\":" ++ (number_of round ++ (codes ",\"moves\":" ++ (number_of moves ++ codes "}\n")))

@@ -2,8 +2,8 @@ use Rattle.std.proofs.Common.{Bool, List, map, refl}
 use Rattle.json_text.specs.List.{with_commas_from}
 use Rattle.json_text.proofs.Commas.{last_text, next_text}
 use Rattle.address_map.specs.declared.address.WordAddr.{WordAddr}
-use Rattle.outcomes_json.specs.Json.{word_of}
-use Rattle.outcomes_json.proofs.json.write_words.Goals as goal
+use Rattle.litmus_outcomes.specs.Json.{word_of}
+use Rattle.litmus_outcomes.proofs.json.write_words.Goals as goal
 
 pub loop-word-preserved : goal.loop-word-preserved
 loop-word-preserved g c = λ new rest.

@@ -3,7 +3,7 @@ use Rattle.json_text.specs.List.{with_commas_from}
 use Rattle.json_text.proofs.Commas.{last_text, next_text}
 use Rattle.std.proofs.Common.{ℕ}
 use Rattle.json_text.specs.Number.{number_of}
-use Rattle.outcomes_json.proofs.json.write_values.Goals as goal
+use Rattle.litmus_outcomes.proofs.json.write_values.Goals as goal
 
 pub loop-value-preserved : goal.loop-value-preserved
 loop-value-preserved g c = λ new rest.

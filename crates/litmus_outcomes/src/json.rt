@@ -4,12 +4,13 @@ ghost use Rattle.json_text.specs.List.{with_commas};
 ghost use Rattle.json_text.specs.Number.{number_of};
 ghost use Rattle.litmus_outcomes.specs.Forbid.{is_forbidden};
 ghost use Rattle.litmus_outcomes.specs.Table.{IsTableOf};
-ghost use Rattle.outcomes_json.specs.Json.{json_of, name_of, outcome_of, seed_of, word_of};
+ghost use Rattle.litmus_outcomes.specs.Json.{json_of, name_of, outcome_of, seed_of, word_of};
 ghost use Rattle.std.specs.Prelude.{count_by};
 
+use super::row::Row;
+use super::table::Outcomes;
 use address_map::WordAddr;
 use json_text::{Number, write_comma};
-use litmus_outcomes::{Outcomes, Row};
 use litmus_test::{LitmusTest, NamedReply};
 use std::fmt::Write;
 use std::{fmt, str};
@@ -32,7 +33,8 @@ pub(crate) fn write_json<W: Write>(
     write_words(test.config.counters(), out)?;
     write!(out, "],\"outcomes\":[")?;
     write_rows(outcomes.rows(), seed, out)?;
-    let forbidden = outcomes.forbidden(test);
+    let count = outcomes.forbidden(test);
+    let forbidden = Number(count);
     writeln!(out, "],\"forbidden\":{forbidden}}}")
 }
 
@@ -87,7 +89,8 @@ fn write_rows<W: Write>(rows: &[Row], seed: Option<u64>, out: &mut W) -> fmt::Re
 fn write_row<W: Write>(row: &Row, seed: Option<u64>, out: &mut W) -> fmt::Result
     ensures { OnOk result (WritesInCalls W.write_str_gives out.old (outcome_of seed row.now) out.new) }
 {
-    let rounds = row.rounds();
+    let count = row.rounds();
+    let rounds = Number(count);
     write!(out, "{{\"rounds\":{rounds},\"values\":[")?;
     write_values(row.values(), out)?;
     write!(out, "]")?;

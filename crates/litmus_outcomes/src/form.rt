@@ -1,10 +1,12 @@
 ghost use Rattle.std.specs.Prelude.{ℕ, List, OnOk};
 ghost use Rattle.std.specs.Fmt.{WritesInCalls};
 ghost use Rattle.litmus_outcomes.specs.Table.{IsTableOf};
-ghost use Rattle.outcomes_json.specs.Form.{text_of_gave_up, text_of_outcomes, text_of_stuck};
+ghost use Rattle.litmus_outcomes.specs.Form.{text_of_gave_up, text_of_outcomes, text_of_stuck};
 
 use super::json::write_json;
-use litmus_outcomes::{Outcomes, write_table};
+use super::table::Outcomes;
+use super::text::write_table;
+use json_text::Number;
 use litmus_test::LitmusTest;
 use std::fmt;
 use std::fmt::Write;
@@ -40,7 +42,10 @@ pub fn write_stuck<W: Write>(round: u64, form: OutcomeForm, out: &mut W) -> fmt:
 {
     match form {
         OutcomeForm::Table => writeln!(out, "stuck round {round}"),
-        OutcomeForm::Json => writeln!(out, "{{\"stuck_round\":{round}}}"),
+        OutcomeForm::Json => {
+            let round = Number(round);
+            writeln!(out, "{{\"stuck_round\":{round}}}")
+        }
     }
 }
 
@@ -55,6 +60,10 @@ pub fn write_gave_up<W: Write>(
 {
     match form {
         OutcomeForm::Table => writeln!(out, "gave up round {round} after {moves} moves"),
-        OutcomeForm::Json => writeln!(out, "{{\"gave_up_round\":{round},\"moves\":{moves}}}"),
+        OutcomeForm::Json => {
+            let round = Number(round);
+            let moves = Number(moves);
+            writeln!(out, "{{\"gave_up_round\":{round},\"moves\":{moves}}}")
+        }
     }
 }

@@ -2,8 +2,8 @@ use Rattle.std.proofs.Common.{◌+◌, ◌++◌, Bool, List, ap, drop, false, ma
 use Rattle.json_text.specs.List.{before_text, with_commas_from}
 use Rattle.json_text.proofs.Commas.{last_text, next_text}
 use Rattle.litmus_outcomes.specs.Table.{RowView}
-use Rattle.outcomes_json.specs.Json.{outcome_of}
-use Rattle.outcomes_json.proofs.json.write_rows.Goals as goal
+use Rattle.litmus_outcomes.specs.Json.{outcome_of}
+use Rattle.litmus_outcomes.proofs.json.write_rows.Goals as goal
 
 pub loop-row-preserved : goal.loop-row-preserved
 loop-row-preserved g c = λ new rest.

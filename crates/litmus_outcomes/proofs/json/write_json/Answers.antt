@@ -1,6 +1,6 @@
 use Rattle.std.proofs.lemmas.Result.{on_ok_weaker}
 use Rattle.std.proofs.Output.{writes_in_calls_append}
-use Rattle.outcomes_json.proofs.json.write_json.Goals as goal
+use Rattle.litmus_outcomes.proofs.json.write_json.Goals as goal
 
 pub returns : goal.returns
 returns g c = λ rounds table.
@@ -14,5 +14,5 @@ returns g c = λ rounds table.
     (then _ _ _ _ _
     (then _ _ _ _ _
     (then _ _ _ _ _ (then _ _ _ _ _ c.in_ok-write.ensures.writes names) c.in_ok-write-2.ensures.writes)
-    words) c.in_ok-write-3.ensures.writes) rows) (rw (c.forbidden-forbidden.ensures rounds table) at last))
+    words) c.in_ok-write-3.ensures.writes) rows) (rw (c.forbidden-count.ensures rounds table) at last))
     c.writeln.ensures.writes

@@ -2,8 +2,8 @@ use Rattle.std.proofs.Common.{Bool, List, map, refl}
 use Rattle.json_text.specs.List.{with_commas_from}
 use Rattle.json_text.proofs.Commas.{last_text, next_text}
 use Rattle.litmus_test.specs.declared.test.NamedReply.{NamedReply}
-use Rattle.outcomes_json.specs.Json.{name_of}
-use Rattle.outcomes_json.proofs.json.write_names.Goals as goal
+use Rattle.litmus_outcomes.specs.Json.{name_of}
+use Rattle.litmus_outcomes.proofs.json.write_names.Goals as goal
 
 pub loop-named-preserved : goal.loop-named-preserved
 loop-named-preserved g c = λ new rest.

@@ -1,11 +1,11 @@
 use Rattle.std.proofs.lemmas.Result.{on_ok_weaker}
 use Rattle.std.proofs.Output.{writes_in_calls_append}
-use Rattle.outcomes_json.proofs.json.write_row.Goals as goal
+use Rattle.litmus_outcomes.proofs.json.write_row.Goals as goal
 
 pub returns : goal.returns
 returns g c =
     let then = writes_in_calls_append g.W.Write.write_str_gives in
-    let rounds = rw c.rounds-rounds.ensures at c.in_ok-write.ensures.writes in
+    let rounds = rw c.rounds-count.ensures at c.in_ok-write.ensures.writes in
     let values = rw c.values.ensures at c.in_ok-write_values.ensures in
     let seed = rw c.first.ensures at c.in_ok-write_seed.ensures in
     on_ok_weaker c.write-3.result

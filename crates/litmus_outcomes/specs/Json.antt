@@ -1,5 +1,5 @@
 -- The outcomes of rounds as one value of JSON (RFC 8259).
-use Rattle.std.specs.Prelude.{ℕ, ◌+◌, ◌%◌, ◌^◌, List, [], ◌++◌, Option, None, Some, codes, decimal, map}
+use Rattle.std.specs.Prelude.{ℕ, ◌+◌, ◌%◌, ◌^◌, List, [], ◌++◌, Option, None, Some, codes, map}
 use Rattle.address_map.specs.declared.address.WordAddr.{WordAddr}
 use Rattle.json_text.specs.List.{with_commas}
 use Rattle.json_text.specs.Number.{number_of}
@@ -22,7 +22,7 @@ seed_of (Some seed) first = codes ",\"seed\":" ++ number_of ((seed + first) % 2 
 -- an outcome: how many rounds had it, and its values, those of the names and then those of the counters
 abbrev pub outcome_of : Option ℕ → RowView → List ℕ
 outcome_of seed row =
-    codes "{\"rounds\":" ++ (decimal row.rounds ++ codes ",\"values\":[") ++ with_commas (map number_of row.values)
+    codes "{\"rounds\":" ++ (number_of row.rounds ++ codes ",\"values\":[") ++ with_commas (map number_of row.values)
     ++ codes "]" ++ seed_of seed row.first ++ codes "}"
 
 -- the whole value, in one line, where so many rounds had a forbidden outcome
@@ -31,4 +31,4 @@ json_of test seed rows forbidden =
     codes "{\"names\":[" ++ with_commas (map name_of test.names.items)
     ++ codes "],\"counters\":[" ++ with_commas (map word_of test.config.counters)
     ++ codes "],\"outcomes\":[" ++ with_commas (map (outcome_of seed) rows)
-    ++ (codes "],\"forbidden\":" ++ (decimal forbidden ++ codes "}\n"))
+    ++ (codes "],\"forbidden\":" ++ (number_of forbidden ++ codes "}\n"))

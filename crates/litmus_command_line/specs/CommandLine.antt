@@ -14,6 +14,8 @@ use Rattle.clap.specs.declared.builder.action.ArgAction.TheVariants.{Append, Set
 use Rattle.clap.specs.declared.builder.value_parser.ValueParser.TheVariants as value_parsers
 use Rattle.litmus_command_line.specs.declared.command_line.CommandLine.{CommandLine}
 use Rattle.litmus_command_line.specs.declared.command_line.CommandLine.TheVariants as command_lines
+use Rattle.litmus_command_line.specs.declared.export.ModelForm.{ModelForm}
+use Rattle.litmus_command_line.specs.declared.export.ModelForm.TheVariants.{Murphi, Smt}
 use Rattle.litmus_command_line.specs.declared.export.ModelCores.{ModelCores}
 use Rattle.litmus_command_line.specs.declared.export.ModelCores.TheVariants.{Two, Three, Four}
 use Rattle.litmus_command_line.specs.declared.form.ScriptForm.{ScriptForm}
@@ -144,7 +146,7 @@ table_app names =
     with_rules (new_app (codes "table"))
     (table_rule names ∷ flag_rule (codes "exclusive") ∷ flag_rule (codes "json") ∷ [])
 
--- the argument that is one of these forms, and the option that is one of these numbers: both have to be there
+-- the argument that is one of these forms, which has to be there, and the option that is one of these numbers
 abbrev pub form_rule : Bor (List (Bor Text)) → Rule
 form_rule names = record (new_rule (codes "FORM")) { required = true; parser = Some (value_parsers.Names names) }
 
@@ -152,7 +154,6 @@ abbrev pub cores_rule : Bor (List (Bor Text)) → Rule
 cores_rule names = record (new_rule (codes "cores")) {
   long = Some (codes "cores");
   value_names = 1;
-  required = true;
   parser = Some (value_parsers.Names names);
 }
 
@@ -219,9 +220,14 @@ word_of Directory = codes "directory"
 abbrev pub AreTables : Bor (List (Bor Text)) → Type 0
 AreTables names = map (λ name. name.now) names.now ≡ word_of Cache ∷ word_of Directory ∷ []
 
+-- the word that names a form of model
+abbrev pub word_of_form : ModelForm → Text
+word_of_form Murphi = codes "murphi"
+word_of_form Smt = codes "smt"
+
 -- these are the forms of a model, and the numbers of its cores, wherever they lie in memory
 abbrev pub AreForms : Bor (List (Bor Text)) → Type 0
-AreForms names = map (λ name. name.now) names.now ≡ codes "murphi" ∷ []
+AreForms names = map (λ name. name.now) names.now ≡ word_of_form Murphi ∷ word_of_form Smt ∷ []
 
 abbrev pub number_of : ModelCores → ℕ
 number_of Two = 2
@@ -344,8 +350,13 @@ IsLine name rows (command_lines.Table table exclusive json) =
     (name ≡ codes "table") × (first_of (codes "TABLE") rows ≡ Some (word_of table))
     × (exclusive ≡ is_given (codes "exclusive") rows) × (json ≡ is_given (codes "json") rows)
 IsLine name rows (command_lines.Export cores exclusive closed) =
-    (name ≡ codes "export") × (first_of (codes "cores") rows ≡ Some (word_of_number cores))
+    (name ≡ codes "export") × (first_of (codes "FORM") rows ≡ Some (word_of_form Murphi))
+    × (first_of (codes "cores") rows ≡ Some (word_of_number cores))
     × (exclusive ≡ is_given (codes "exclusive") rows) × (closed ≡ is_given (codes "closed") rows)
+IsLine name rows (command_lines.Queries exclusive) =
+    (name ≡ codes "export") × (first_of (codes "FORM") rows ≡ Some (word_of_form Smt))
+    × (exclusive ≡ is_given (codes "exclusive") rows)
+    × (is_some (first_of (codes "cores") rows) ≡ false) × (is_given (codes "closed") rows ≡ false)
 
 -- the subcommand that was read is what the line holds
 abbrev pub IsAsked : Option (Text × List Row) → CommandLine → Type 0

@@ -1,11 +1,11 @@
-ghost use Rattle.std.specs.Prelude.{◌≡◌, ◌<◌, map, IfOk, IfSome, string_bytes, codes, false, is_some};
+ghost use Rattle.std.specs.Prelude.{◌≡◌, ◌<◌, map, IfOk, IfSome, Some, string_bytes, codes, false, is_some};
 ghost use Rattle.litmus_command_line.specs.CommandLine.{IsAsked, IsFormOf, IsLine, IsRead, is_given, word_of, IsNumberOf};
-ghost use Rattle.litmus_command_line.specs.CommandLine.{IsNumberIfGiven, word_of_number, AreSettings, is_swept, settings_in};
+ghost use Rattle.litmus_command_line.specs.CommandLine.{IsNumberIfGiven, word_of_form, word_of_number, AreSettings, is_swept, settings_in};
 ghost use Rattle.litmus_command_line.specs.CommandLine.{settings_of};
 ghost use Rattle.std.specs.Option.{option_map};
 ghost use Rattle.clap.specs.Words.{found_of, rows_of, first_of, subcommand_rows_of};
 
-use super::export::ModelCores;
+use super::export::{ModelCores, ModelForm};
 use super::form::ScriptForm;
 use super::subcommands::lockup;
 use super::table::Table;
@@ -103,7 +103,7 @@ pub enum CommandLine<'a> {
         json: bool,
         explain: bool,
     },
-    /// Print a table of the protocol, with the exclusive state or without it. With `json`, print its rows as values of
+    /// Print a table of the protocol, with the exclusive state or without it. With `json`, print its cells as values of
     /// JSON.
     Table {
         table: Table,
@@ -117,6 +117,10 @@ pub enum CommandLine<'a> {
         exclusive: bool,
         closed: bool,
     },
+    /// Print a line's protocol as queries of any number of cores, with the exclusive state or without it.
+    Queries {
+        exclusive: bool,
+    },
 }
 
 /// Reads the program's words, of which the first is its own name. What is refused, and help, is an error that
@@ -129,8 +133,8 @@ pub fn read_line<'a>(alloc: Global, words: &'a [String]) -> Result<CommandLine<'
     drop(matches);
     match line {
         Some(line) => Ok(line),
-        // The command asks for a subcommand and its arguments, so this isn't met.
-        None => Err(missing(alloc)?),
+        // The command asks for a subcommand and its arguments, so only a model's options are to be told apart.
+        None => Err(unfit(alloc)?),
     }
 }
 
@@ -165,8 +169,11 @@ fn settings_of<'a>(alloc: Global, given: &ArgMatches<'a>) -> Result<Vec<&'a str>
     }
 }
 
-fn missing(alloc: Global) -> Result<Error, AllocError> {
-    lockup(alloc)?.error(ErrorKind::MissingSubcommand, "a subcommand is missing")
+fn unfit(alloc: Global) -> Result<Error, AllocError> {
+    lockup(alloc)?.error(
+        ErrorKind::ArgumentConflict,
+        "export murphi needs --cores <N>, and export smt takes neither --cores nor --closed",
+    )
 }
 
 fn asked<'a>(matches: &ArgMatches<'a>) -> Option<CommandLine<'a>>
@@ -370,6 +377,16 @@ fn table_line<'a>(given: &ArgMatches<'a>) -> Option<CommandLine<'a>>
 fn export_line<'a>(given: &ArgMatches<'a>) -> Option<CommandLine<'a>>
     ensures { IfSome result (IsLine (codes "export") (rows_of (found_of given.now))) }
 {
+    match model_form_of(given)? {
+        ModelForm::Murphi => model_line(given),
+        ModelForm::Smt => queries_line(given),
+    }
+}
+
+fn model_line<'a>(given: &ArgMatches<'a>) -> Option<CommandLine<'a>>
+    requires { first_of (codes "FORM") (rows_of (found_of given.now)) ≡ Some (codes "murphi") }
+    ensures { IfSome result (IsLine (codes "export") (rows_of (found_of given.now))) }
+{
     let cores = model_cores_of(given)?;
     let exclusive = is_given(given, "exclusive");
     let closed = is_given(given, "closed");
@@ -378,6 +395,17 @@ fn export_line<'a>(given: &ArgMatches<'a>) -> Option<CommandLine<'a>>
         exclusive,
         closed,
     })
+}
+
+fn queries_line<'a>(given: &ArgMatches<'a>) -> Option<CommandLine<'a>>
+    requires { first_of (codes "FORM") (rows_of (found_of given.now)) ≡ Some (codes "smt") }
+    ensures { IfSome result (IsLine (codes "export") (rows_of (found_of given.now))) }
+{
+    let exclusive = is_given(given, "exclusive");
+    if is_given(given, "closed") || has_text(given, "cores") {
+        return None;
+    }
+    Some(CommandLine::Queries { exclusive })
 }
 
 fn file_of<'a>(given: &ArgMatches<'a>) -> Option<&'a str>
@@ -398,6 +426,17 @@ fn table_of(given: &ArgMatches<'_>) -> Option<Table>
     match given.get_str("TABLE")? {
         "cache" => Some(Table::Cache),
         "directory" => Some(Table::Directory),
+        _ => None,
+    }
+}
+
+fn model_form_of(given: &ArgMatches<'_>) -> Option<ModelForm>
+    ensures { IfSome result
+        (λ form. first_of (codes "FORM") (rows_of (found_of given.now)) ≡ Some (word_of_form form)) }
+{
+    match given.get_str("FORM")? {
+        "murphi" => Some(ModelForm::Murphi),
+        "smt" => Some(ModelForm::Smt),
         _ => None,
     }
 }

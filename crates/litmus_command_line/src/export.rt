@@ -1,3 +1,12 @@
+/// The form in which a line's protocol is exported.
+#[derive(Clone, Copy, Debug, PartialEq, Eq)]
+pub enum ModelForm {
+    /// A model of some cores, for model checkers.
+    Murphi,
+    /// Queries of any number of cores, for SMT solvers.
+    Smt,
+}
+
 /// How many cores an exported model has.
 #[derive(Clone, Copy, Debug, PartialEq, Eq)]
 pub enum ModelCores {

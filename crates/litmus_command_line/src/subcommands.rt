@@ -52,7 +52,7 @@ const EXPLAIN_ERROR: &str = "Explain an error: what could stand there, or why FI
 static TABLES: [&str; 2] = ["cache", "directory"];
 
 /// The words that name a form of model.
-static FORMS: [&str; 1] = ["murphi"];
+static FORMS: [&str; 2] = ["murphi", "smt"];
 
 /// The numbers of cores that a model may have.
 static MODEL_CORES: [&str; 3] = ["2", "3", "4"];
@@ -523,7 +523,7 @@ fn table<'a>(alloc: Global) -> Result<Command<'a>, AllocError>
     );
     and(
         command,
-        flag(alloc, "json", "Print each row as a value of JSON"),
+        flag(alloc, "json", "Print each cell as a value of JSON"),
     )
 }
 
@@ -542,7 +542,7 @@ fn export<'a>(alloc: Global) -> Result<Command<'a>, AllocError>
     let command = begin(
         alloc,
         "export",
-        "Prints the protocol of one line as a model for the model checkers Rumur and CMurphi",
+        "Prints the protocol of one line for other tools to judge: model checkers and SMT solvers",
         help::EXPORT,
     );
     let command = and(command, form(alloc));
@@ -556,7 +556,7 @@ fn export<'a>(alloc: Global) -> Result<Command<'a>, AllocError>
         flag(
             alloc,
             "closed",
-            "Also have each miss completed, once no core asks any more",
+            "Also have each miss completed, once no core asks any more (murphi)",
         ),
     )
 }
@@ -565,7 +565,7 @@ fn form<'a>(alloc: Global) -> Arg<'a>
     ensures { IsNameOf form_rule AreForms result }
 {
     Arg::new(alloc, "FORM")
-        .help("The form of the model")
+        .help("For Rumur and CMurphi, or for z3 and cvc5")
         .required(true)
         .value_parser(FORMS.as_slice())
 }
@@ -576,8 +576,7 @@ fn model_cores<'a>(alloc: Global) -> Arg<'a>
     Arg::new(alloc, "cores")
         .long("cores")
         .value_name("N")
-        .help("How many cores the model has")
-        .required(true)
+        .help("How many cores the model has (murphi)")
         .value_parser(MODEL_CORES.as_slice())
 }
 

@@ -188,7 +188,7 @@ Example: lockup check --explain examples/illegal_trace.txt";
 
 /// What stands below the options of `export`.
 pub const EXPORT: &str = "\
-Each rule is one row of the tables by which the slices run, and has its cell's name, so a
+murphi: each rule is one row of the tables by which the slices run, and has its cell's name, so a
 counterexample reads like them:
 
   lockup export murphi --cores 3 > model.m
@@ -199,4 +199,10 @@ counterexample reads like them:
 With --closed the cores may cease to ask at any time, and Rumur, not CMurphi, judges that each miss
 and each eviction can still be completed then.
 
-Documents: docs/PROTOCOL.md (the tables, and what Rumur finds)";
+smt: each query is one row, of any number of cores: the invariant holds before it and not behind it.
+All are to be unsat. tools/second-opinion asks z3 and cvc5:
+
+  lockup export smt > queries.smt2
+  z3 queries.smt2
+
+Documents: docs/PROTOCOL.md (the tables, and what Rumur finds), docs/COHERENCE.md (the queries)";

@@ -1,0 +1,2 @@
+mod CacheCases
+mod DirectoryEntries

@@ -68,10 +68,10 @@ def code() -> Iterator[Path]:
         yield from (crate / "src").rglob("*.rt")
 
 
-def asked(calls: Sequence[Call]) -> list[Ran]:
-    """Returns what comes of calls that one process of node runs one after another."""
+def asked(calls: Sequence[Call], *flags: str) -> list[Ran]:
+    """Returns what comes of calls that one process of node, with these flags, runs one after another."""
     listed = [{"words": [latin(it) for it in call.words], "input": latin(call.text)} for call in calls]
-    ran = run(["node", ROOT / "browser/many.mjs", folder() / "lockup.wasm"], json.dumps(listed))
+    ran = run(["node", *flags, ROOT / "browser/many.mjs", folder() / "lockup.wasm"], json.dumps(listed))
     if ran.status:
         raise Different(f"node ends with {ran.status}:\n{ran.err[-2000:]}")
     return [Ran(it["status"], text(it["out"]), text(it["err"])) for it in json.loads(ran.out)]

@@ -215,17 +215,81 @@ def test_stuck() -> None:
     same("value", {"stuck_round": 0}, value_of("litmus", "litmus", file, "--limit", "1", status=1))
 
 
+# how the table says in a word what has a word of its own as data
+SENT = {"other sharers": "x", "owner": "o"}
+SHARERS = {("nobody", False, False): "", ("nobody", True, False): ", sharers r", ("nobody", False, True): ", sharers x",
+           ("nobody", True, True): ", sharers r, x", ("requester", False, False): ", owner r",
+           ("other", False, False): ", owner o"}
+
+
+def said_of(effect: dict) -> str:
+    """An effect in the table's words."""
+    if "do" in effect:
+        return {"count": "k + 1"}.get(effect["do"], effect["do"])
+    name, to = effect["send"], effect["to"]
+    if name == "Data":
+        return "Data home" if to == "directory" else "Data(x)" if effect["acknowledgements"] == "other sharers" else "Data(0)"
+    return f"{name} to {SENT[to]}" if to in SENT else name
+
+
+def entry_of(cell: dict) -> str:
+    """A directory's entry behind a row, in the table's words."""
+    owner, sharers = cell["next"]["owner"], cell["next"]["sharers"]
+    before = cell["guard"]
+    asks, others = before["requester_shares"], before["others_share"]
+    asks = {"nobody": False, "same": asks, "same but requester": False}.get(sharers, True)
+    kept = sharers in ("same", "same and requester", "same but requester")
+    names = ["o"] * (sharers == "owner and requester") + ["r"] * asks + ["x"] * (others and kept)
+    owns = {"requester": "r", "nobody": "", "same": {"other": "o", "requester": "r", "nobody": ""}[before["owner"]]}[owner]
+    return (cell["next"]["state"] + (f", owner {owns}" if owns else "")
+            + (f", sharers {', '.join(names)}" if names else ""))
+
+
+def cell_of(cell: dict) -> tuple[str, str, str]:
+    """A cell as the printed table has it: its line, its column, and its text."""
+    guard = cell["guard"]
+    is_cache = cell["table"] == "cache"
+    if is_cache:
+        line = cell["state"]
+        column = ", ".join([cell["event"], *guard.values()])
+    else:
+        line = cell["state"] + SHARERS[(guard["owner"], guard["requester_shares"], guard["others_share"])]
+        column = cell["event"] if cell["event"] == "Data home" else f"{cell['event']} of r"
+    if cell["row"] != "go":
+        return line, column, {"never": "-"}.get(cell["row"], cell["row"])
+    does = [said_of(effect) for effect in cell["effects"]]
+    sent = ", ".join(it for it in does if it != "block home")
+    parts = [sent, *(it for it in does if it == "block home"), cell["next"]["state"] if is_cache else entry_of(cell)]
+    return line, column, "; ".join(it for it in parts if it)
+
+
+def of_sample(line: str, column: str, text: str) -> tuple[str, str, str]:
+    """A printed cell, with x for all further sharers: the table has the last owner for one of them in S_D, and counts."""
+    line, column = line.replace(" (exclusive on)", ""), column.replace(" (exclusive on)", "")
+    if line.startswith("S_D"):
+        line, text = (it.replace("o, r", "r, x").replace("o, x", "x").replace("sharers o", "sharers x")
+                      for it in (line, text))
+    return line, column, re.sub(r"Data\(\d\), Inv to (x|nobody)", "Data(x), Inv to x", text)
+
+
 @each(lambda: [(f"{table}, {option}", table, option) for table in ("cache", "directory") for option in ("", "--exclusive")])
 def test_table(_: str, table: str, option: str) -> None:
     words = ("table", table, *option.split())
-    rows = [line.strip("|").split("|") for line in lockup(*words).out.splitlines() if line.startswith("| ")]
+    printed, heading = set(), []
+    for row in (line.strip("|").split("|") for line in lockup(*words).out.splitlines() if line.startswith("| ")):
+        line, *cells = (cell.strip() for cell in row)
+        if line in ("Cache", "Directory"):
+            heading = cells
+        elif line != "I (exclusive off)":
+            printed.update(of_sample(line, column, text) for column, text in zip(heading, cells, strict=True))
     ran = lockup(*words, "--json")
     same("status and error", (0, ""), (ran.status, ran.err))
     values = [json.loads(line) for line in ran.out.splitlines()]
     for value in values:
         fits(value, schema("table"))
-    same("cells", [[cell.strip() for cell in row] for row in rows], values)
-    want(len(values) > 6, "rows")
+    same("tables", {table}, {value["table"] for value in values})
+    same("each once", len(values), len(set(map(cell_of, values))))
+    same("cells", sorted(printed), sorted(map(cell_of, values)))
 
 
 def test_check() -> None:

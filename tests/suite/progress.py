@@ -1,9 +1,9 @@
 """Watches a long run as somebody at a terminal does: standard error is a pseudo-terminal, which is
 told how far it is.
 
-Behind each 500 rounds but the last stands how many of them are done, on one line, behind each 65,536
-moves of programs how many of their steps are taken, and behind the rows that are written together, but
-the last, how many rows are. Where nobody watches nothing is said.
+Behind rounds 1, 2, 5, 10, 20, 50, 100, 200 and each 500 but the last stands how many of them are done,
+on one line, behind each 65,536 moves of programs how many of their steps are taken, and behind the rows
+that are written together, but the last, how many rows are. Where nobody watches nothing is said.
 """
 import os
 import pty
@@ -14,7 +14,7 @@ import tempfile
 from harness import each, lockup, program, same, want, write
 
 TEST = "lockup-litmus 1\nrounds 1500\nthread 0\nload 0 a\nforbid a=1\n"
-TOLD = b"500 of 1500 rounds\r1000 of 1500 rounds\r"
+TOLD = b"".join(b"%d of 1500 rounds\r" % done for done in (1, 2, 5, 10, 20, 50, 100, 200, 500, 1000))
 
 
 def watched(*words: str) -> tuple[int, bytes]:

@@ -5,8 +5,15 @@ use Rattle.litmus_command_line.specs.declared.table.Table.{Table}
 use Rattle.litmus_command_line.specs.declared.table.Table.TheVariants as tables
 use Rattle.protocol_tables.specs.Cache.{table_of as cache_table}
 use Rattle.protocol_tables.specs.Directory.{table_of as directory_table}
+use Rattle.table_json.specs.Cache.{cells_of as cache_cells}
+use Rattle.table_json.specs.Directory.{cells_of as directory_cells}
 
 -- the text of a table, with what the exclusive state adds to it or without that, and behind it what its words mean
 abbrev pub text_of_table : Table → Bool → List ℕ
 text_of_table tables.Cache exclusive = cache_table exclusive ++ CACHE.now
 text_of_table tables.Directory exclusive = directory_table exclusive ++ DIRECTORY.now
+
+-- .. and its cells as values of JSON
+abbrev pub values_of : Table → Bool → List ℕ
+values_of tables.Cache exclusive = cache_cells exclusive
+values_of tables.Directory exclusive = directory_cells exclusive

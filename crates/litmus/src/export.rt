@@ -2,11 +2,13 @@ ghost use Rattle.std.specs.Prelude.{◌≡◌, ◌<◌, IfErr, IfOk, OnOk};
 ghost use Rattle.std.specs.Io.KnownBytes.{Appends};
 ghost use Rattle.litmus_command_line.specs.CommandLine.{number_of};
 ghost use Rattle.protocol_murphi.specs.Model.{model_of};
+ghost use Rattle.protocol_smt.specs.Queries.{queries_of};
 
 use litmus_command_line::ModelCores;
 use litmus_script::TextWriter;
 use litmus_text::TextFault;
 use protocol_murphi::write_model;
+use protocol_smt::write_queries;
 use std::io::Write;
 
 /// Prints a line's protocol as a model of so many cores, with the exclusive state or without it, and with what can be
@@ -39,6 +41,20 @@ fn print_model<W: Write>(
 {
     let mut answers = TextWriter { out };
     match write_model(exclusive, closed, cores, &mut answers) {
+        Ok(()) => Ok(0),
+        Err(_) => Err(TextFault::CannotWrite),
+    }
+}
+
+/// Prints a line's protocol as queries of any number of cores, with the exclusive state or without it. Returns the exit
+/// status.
+pub fn run_queries<W: Write>(exclusive: bool, out: &mut W) -> Result<u8, TextFault>
+    ensures status { IfOk result (λ status. status ≡ 0) }
+    ensures fault { IfErr result (λ fault. fault ≡ TextFault.CannotWrite) }
+    ensures printed { OnOk result (Appends (W.contents out.old) (W.contents out.new) (queries_of exclusive)) }
+{
+    let mut answers = TextWriter { out };
+    match write_queries(exclusive, &mut answers) {
         Ok(()) => Ok(0),
         Err(_) => Err(TextFault::CannotWrite),
     }

@@ -18,39 +18,38 @@
 //!   programs of a workload.
 //! - [`check_trace`] judges a trace, and answers its [`Verdict`]; [`run_check`] writes what that comes to,
 //!   [`run_check_explained`] with what was expected of an entry at fault, and [`run_check_json`] both as JSON.
-//! - [`run_table`] prints a table of the protocol with its legend, [`run_table_rows`] its rows as values of JSON, and
-//!   [`run_export`] the protocol of one line as a model.
+//! - [`run_table`] prints a table of the protocol with its legend, [`run_table_cells`] its cells as values of JSON, and
+//!   [`run_export`] the protocol of one line as a model, and [`run_queries`] as queries.
 //!
 //! Running, drawing, reading and walking are crates of their own. What is wrong with a text, or why it can't be run or
 //! what comes of it can't be written, is a [`TextFault`]; [`hint`] says what a reader of it may want to know.
 #![tactic(auto)]
 
 pub use check::{run_check, run_check_explained, run_check_json};
-pub use export::run_export;
+pub use export::{run_export, run_queries};
 pub use hints::{TextKind, hint};
 pub use litmus_chart::{line_count, run_chart, run_svg};
 pub use litmus_command_line::{
     CommandLine, ModelCores, ScriptForm, Table, read_line, read_settings,
 };
+pub use litmus_outcomes::OutcomeForm;
 pub use litmus_script::run_script;
 pub use litmus_test::{Progress, Silent};
 pub use litmus_text::TextFault;
 pub use murphi_trace::run_trace;
-pub use outcomes_json::OutcomeForm;
 pub use pages::{page_schedule, page_walk};
 pub use program_generate::{GenerateFault, Size, Workload, write_workload};
 pub use program_run::{Form, run_programs, write_schedule};
 pub use program_sweep::{
     RowFault, RowForm, Seeds, Setting, Sweep, SweepFault, program_name, run_sweep,
 };
-pub use script_beside::run_beside;
-pub use script_explained::run_explained;
+pub use script_explained::{run_beside, run_explained};
 pub use script_json::run_json;
 pub use script_page::run_page;
 pub use script_prompt::{Saver, run_prompt};
 pub use script_test::run_test;
 pub use script_waves::run_waves;
-pub use table::{run_table, run_table_rows};
+pub use table::{run_table, run_table_cells};
 pub use tests::{run_litmus, run_litmus_as, run_walk, write_walk};
 pub use trace_check::{Reason, Verdict, check_trace};
 

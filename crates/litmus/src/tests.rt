@@ -5,12 +5,12 @@ ghost use Rattle.litmus_threads.specs.Run.{IsEndOf};
 ghost use Rattle.litmus_walk.specs.Script.{PrintsWalk};
 ghost use Rattle.litmus_script.specs.Machine.{bound_of};
 ghost use Rattle.std.specs.Io.KnownBytes.{Appends};
-ghost use Rattle.outcomes_json.specs.declared.form.OutcomeForm.TheVariants as outcome_forms;
+ghost use Rattle.litmus_outcomes.specs.declared.form.OutcomeForm.TheVariants as outcome_forms;
 
+use litmus_outcomes::OutcomeForm;
 use litmus_test::{LitmusTest, Progress, Silent};
 use litmus_text::TextFault;
 use litmus_threads::play_test;
-use outcomes_json::OutcomeForm;
 use std::alloc::Global;
 use std::io::Write;
 use std::sync::Wait;

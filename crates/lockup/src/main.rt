@@ -13,8 +13,8 @@ use litmus::{
     CommandLine, Form, OutcomeForm, ScriptForm, Seeds, Size, SweepFault, TextKind, hint,
     line_count, page_schedule, page_walk, read_line, run_beside, run_chart, run_check,
     run_check_explained, run_check_json, run_explained, run_export, run_json, run_litmus_as,
-    run_page, run_programs, run_script, run_svg, run_table, run_table_rows, run_test, run_trace,
-    run_walk, run_waves, write_schedule, write_walk,
+    run_page, run_programs, run_queries, run_script, run_svg, run_table, run_table_cells, run_test,
+    run_trace, run_walk, run_waves, write_schedule, write_walk,
 };
 use litmus_text::TextFault;
 use painted::Painted;
@@ -303,8 +303,10 @@ fn file_of<'a>(line: CommandLine<'a>) -> Option<&'a str> {
         | CommandLine::Sweep { file, .. }
         | CommandLine::Check { file, .. } => Some(file),
         CommandLine::Try { file } => file,
-        CommandLine::Generate { .. } | CommandLine::Table { .. } | CommandLine::Export { .. } =>
-            None,
+        CommandLine::Generate { .. }
+        | CommandLine::Table { .. }
+        | CommandLine::Export { .. }
+        | CommandLine::Queries { .. } => None,
     }
 }
 
@@ -435,7 +437,7 @@ where
             table,
             exclusive,
             json: true,
-        } => run_table_rows(alloc, table, exclusive, out),
+        } => run_table_cells(table, exclusive, out),
         CommandLine::Table {
             table,
             exclusive,
@@ -446,6 +448,7 @@ where
             exclusive,
             closed,
         } => run_export(cores, exclusive, closed, out),
+        CommandLine::Queries { exclusive } => run_queries(exclusive, out),
     }
 }
 

@@ -1,6 +1,7 @@
 use litmus::Progress;
 
-/// How many rounds lie between two times that it is told how far a run has got.
+/// How many rounds lie between two times that it is told how far a run has got. Before the first, rounds that take long
+/// are told at 1, 2, 5, 10 and so on.
 const BETWEEN: u64 = 500;
 
 /// What a long run counts on its way.
@@ -26,7 +27,9 @@ impl Counted {
     /// Whether it is told that so many are done.
     fn is_told(self, done: u64) -> bool {
         match self {
-            Counted::Rounds => done % BETWEEN == 0,
+            Counted::Rounds => {
+                done % BETWEEN == 0 || matches!(done, 1 | 2 | 5 | 10 | 20 | 50 | 100 | 200)
+            }
             Counted::Steps | Counted::Rows => true,
         }
     }

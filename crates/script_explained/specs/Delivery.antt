@@ -1,24 +1,16 @@
 -- What is said of a delivery: the case that the message in front of the channel met, what was planned for it, and what
 -- was done of that.
-use Rattle.std.specs.Prelude.{ℕ, List, [], ◌++◌, codes, length, Option, Some, None}
-use Rattle.std.specs.Io.KnownBytes.{Appends}
+use Rattle.std.specs.Prelude.{ℕ, List, ◌++◌, codes, length, Option, Some, None}
 use Rattle.std.specs.Option.{option_map}
 use Rattle.address_map.specs.declared.address.CoreId.{CoreId}
-use Rattle.litmus_script.specs.Machine.{Answers}
-use Rattle.litmus_script.specs.Prints.{Adds}
 use Rattle.litmus_text.specs.Command.{parts_of}
 use Rattle.litmus_text.specs.declared.command.Command.TheVariants as commands
 use Rattle.script_explained.specs.Look.{copy_at, entry_of, message_at}
 use Rattle.script_text.specs.Line.{text_of_parts}
-use Rattle.slice_core.specs.declared.run.Call.TheVariants as slice_calls
-use Rattle.slice_core.specs.declared.run.CallAnswer.TheVariants as call_answers
-use Rattle.slice_answer.specs.Text.{text_of_delivered}
-use Rattle.slice_answer.specs.declared.answer.Delivered.{Delivered}
-use Rattle.slice_core_plan.specs.Calls.{PartsView, core_of}
+use Rattle.slice_core_plan.specs.Calls.{core_of}
 use Rattle.slice_core_plan.specs.Plan.{planned_at}
 use Rattle.slice_core_plan.specs.View.{View}
 use Rattle.slice_queues_message.specs.Pick.{channel_of, line_of}
-use Rattle.slice_queues_message.specs.declared.channel.Class.TheVariants as classes
 use Rattle.slice_queues_message.specs.declared.channel.Pick.{Pick}
 use Rattle.slice_queues_message.specs.declared.channel.Pick.TheVariants as picks
 use Rattle.step_text.specs.Delivery.{text_of_delivery}
@@ -28,7 +20,6 @@ use Rattle.step_text.specs.declared.case.Who.{Who}
 use Rattle.step_text.specs.declared.case.Who.TheVariants as whos
 use Rattle.step_text.specs.declared.delivery.ExplainedDelivery.{ExplainedDelivery}
 use Rattle.step_text.specs.declared.effects.Done.{Done}
-use Rattle.slice_answer.specs.declared.answer.Delivery.TheVariants as deliveries
 use Rattle.slice_answer.specs.declared.answer.Delivery.{Delivery}
 use Rattle.slice_core_plan.specs.declared.transition.Transition.{Transition}
 
@@ -72,28 +63,9 @@ abbrev pub told_of_delivery : Option ExplainedDelivery → List ℕ
 told_of_delivery None = codes "no message waits"
 told_of_delivery (Some delivery) = text_of_delivery delivery
 
--- a state of a slice delivered the message, and its answer was written with what is said of that
-pub record ExplainsDelivery (slice : ℕ) (pick : Pick) (before after : Option (List ℕ))
-    (old new : PartsView) : Type 0 where
-  pub answer : Delivered
-  pub answered : Answers (slice_calls.Deliver pick) (call_answers.Deliver answer) old new
-  pub written : Adds before after (text_of_delivered answer ++ codes "   "
-      ++ told_of_delivery (delivery_of slice pick old.view new.view))
-
 -- ---- a delivery that a pump makes
 
 -- the command that makes it, and what is said of it
 abbrev pub text_of_made : Pick → Option ExplainedDelivery → List ℕ
 text_of_made pick delivery =
     text_of_parts (parts_of (commands.Deliver pick)) ++ codes "   " ++ told_of_delivery delivery ++ codes "\n"
-
--- what is said of the next delivery of a slice, by its answer: nothing where none was made
-abbrev pub text_of_next : ℕ → Delivery Pick → View → View → List ℕ
-text_of_next slice (deliveries.Moved pick) old new = text_of_made pick (delivery_of slice pick old new)
-text_of_next slice answer old new = []
-
--- a state of a slice made its next delivery, where one could be made, and what there is to say of it was written
-pub record ExplainsNext (slice : ℕ) (answer : Delivery Pick) (before after : Option (List ℕ))
-    (old new : PartsView) : Type 0 where
-  pub answered : Answers (slice_calls.DeliverNext classes.Any) (call_answers.DeliverNext answer) old new
-  pub written : Appends before after (text_of_next slice answer old.view new.view)

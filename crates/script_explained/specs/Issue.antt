@@ -6,21 +6,17 @@ use Rattle.address_map.specs.declared.address.LineAddr.{LineAddr}
 use Rattle.address_map.specs.declared.request.Request.{Request}
 use Rattle.address_map.specs.Place.{line_of}
 use Rattle.litmus_script.specs.Answer.{text_of_issued}
-use Rattle.litmus_script.specs.Issued.{Issues}
-use Rattle.litmus_script.specs.Machine.{Answers}
 use Rattle.litmus_script.specs.Prints.{Adds}
-use Rattle.litmus_script.specs.declared.answers.Issued.{Issued}
 use Rattle.script_explained.specs.Look.{copy_at, message_at}
 use Rattle.script_explained.specs.Named.{named_by, text_of_copies, AreNamed}
 use Rattle.script_explained.specs.declared.named.Named.{Named}
 use Rattle.script_explained.specs.declared.named.Named.TheVariants as named_kinds
+use Rattle.script_explained.specs.declared.step.AccessStep.{AccessStep}
+use Rattle.script_explained.specs.declared.step.EvictionStep.{EvictionStep}
 use Rattle.slice_answer.specs.Text.{text_of_evicted}
 use Rattle.slice_answer.specs.declared.answer.Evicted.{Evicted}
 use Rattle.slice_answer.specs.declared.answer.Evicted.TheVariants as evictions
-use Rattle.slice_core.specs.declared.run.Call.TheVariants as slice_calls
-use Rattle.slice_core.specs.declared.run.CallAnswer.TheVariants as call_answers
 use Rattle.slice_core_plan.specs.Decision.{decision_of}
-use Rattle.slice_core_plan.specs.Calls.{PartsView}
 use Rattle.slice_core_plan.specs.View.{View}
 use Rattle.slice_core_steps.specs.declared.core_lines.CoreLines.TheVariants as core_lines
 use Rattle.slice_queues_message.specs.declared.channel.Pick.TheVariants as picks
@@ -40,24 +36,16 @@ issue_at slice v core request = record {
 }
 
 -- which copies are named as the reason: those in its way, or its victim
-abbrev pub named_at : View → CoreId → Request → Named
-named_at v core request = named_by (line_of request.word) (decision_of v core request)
+abbrev pub named_of : Issue → Named
+named_of issue = named_by (line_of issue.request.word) issue.decision
 
--- what is said of it, where these are the lines of the copies that are named: each is told as it is then
-abbrev pub told_of_issue : ℕ → CoreId → Request → List ℕ → View → View → List ℕ
-told_of_issue slice core request lines old new =
-    text_of_issue (issue_at slice old core request)
-    ++ text_of_copies (named_at old core request) new core lines
-
--- a state of a slice answered the access, and its answer was written with what is said of that
-pub record ExplainsIssue (slice : ℕ) (core : CoreId) (request : Request) (before after : Option (List ℕ))
-    (old new : PartsView) : Type 0 where
-  pub issued : Issued
-  pub answered : Issues core request issued old new
+-- The answer to an access is written with what is said of it: what was decided, and the copies in its way, or its
+-- victim, each as it is then.
+pub record TellsAccess (access : AccessStep) (v : View) (before after : Option (List ℕ)) : Type 0 where
   pub numbers : List ℕ
-  pub are_named : AreNamed (named_at old.view core request) new.view core numbers
-  pub written : Adds before after (text_of_issued issued ++ codes "   "
-      ++ told_of_issue slice core request numbers old.view new.view)
+  pub are_named : AreNamed (named_of access.decided) v access.core numbers
+  pub written : Adds before after (text_of_issued access.issued ++ codes "   "
+      ++ (text_of_issue access.decided ++ text_of_copies (named_of access.decided) v access.core numbers))
 
 -- an eviction that a core asked the slice with this number for, as it was answered
 abbrev pub eviction_of : ℕ → CoreId → LineAddr → Evicted → View → View → Eviction
@@ -74,17 +62,10 @@ abbrev pub named_by_answer : Evicted → Named
 named_by_answer evictions.WriteBackFull = named_kinds.Lines core_lines.Leaving
 named_by_answer answer = named_kinds.Nothing
 
-abbrev pub told_of_eviction : ℕ → CoreId → LineAddr → Evicted → List ℕ → View → View → List ℕ
-told_of_eviction slice core line answer lines old new =
-    text_of_eviction (eviction_of slice core line answer old new)
-    ++ text_of_copies (named_by_answer answer) new core lines
-
--- a state of a slice answered the eviction, and its answer was written with what is said of that
-pub record ExplainsEviction (slice : ℕ) (core : CoreId) (line : LineAddr) (before after : Option (List ℕ))
-    (old new : PartsView) : Type 0 where
-  pub answer : Evicted
-  pub answered : Answers (slice_calls.Evict core line) (call_answers.Evict answer) old new
+-- the answer to an eviction is written with what is said of it
+pub record TellsEviction (step : EvictionStep) (v : View) (before after : Option (List ℕ)) : Type 0 where
   pub numbers : List ℕ
-  pub are_named : AreNamed (named_by_answer answer) new.view core numbers
-  pub written : Adds before after
-      (text_of_evicted answer ++ codes "   " ++ told_of_eviction slice core line answer numbers old.view new.view)
+  pub are_named : AreNamed (named_by_answer step.eviction.answer) v step.core numbers
+  pub written : Adds before after (text_of_evicted step.eviction.answer ++ codes "   "
+      ++ (text_of_eviction step.eviction
+      ++ text_of_copies (named_by_answer step.eviction.answer) v step.core numbers))

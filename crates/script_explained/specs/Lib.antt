@@ -1,7 +1,10 @@
+pub mod Beside
 pub mod Delivery
 pub mod Explains
 pub mod Hand
 pub mod Issue
 pub mod Look
 pub mod Named
+pub mod Rows
+pub mod Step
 pub mod Unrest

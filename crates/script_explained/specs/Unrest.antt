@@ -2,10 +2,6 @@
 use Rattle.std.specs.Prelude.{ℕ, List, [], ◌++◌, codes, decimal, length, map, slice_get, Option, Some, None}
 use Rattle.std.specs.List.{filter, flat_map, range_with_len}
 use Rattle.address_map.specs.declared.address.CoreId.{CoreId}
-use Rattle.address_map.specs.declared.address.WordAddr.{WordAddr}
-use Rattle.litmus_script.specs.Answer.{text_of_word}
-use Rattle.litmus_script.specs.Machine.{ShowsWord}
-use Rattle.litmus_script.specs.Prints.{Adds}
 use Rattle.litmus_script.specs.Waiting.{picks_of}
 use Rattle.litmus_text.specs.Command.{parts_of}
 use Rattle.litmus_text.specs.declared.command.Command.TheVariants as commands
@@ -43,9 +39,3 @@ text_of_unrest (unrests.Reply core tag) =
 abbrev pub told_of_word : Option ℕ → Option Unrest → List ℕ
 told_of_word None (Some unrest) = codes "   " ++ text_of_unrest unrest
 told_of_word shown unrest = []
-
--- the slice shows this of its word, which was written with what is said of it
-pub record ExplainsWord (word : WordAddr) (before after : Option (List ℕ)) (v : View) : Type 0 where
-  pub shown : Option ℕ
-  pub shows : ShowsWord v word shown
-  pub written : Adds before after (text_of_word shown ++ told_of_word shown (first_unrest v))

@@ -1,11 +1,10 @@
 //! Deliveries.
-ghost use Rattle.std.specs.Prelude.{◌≡◌, ◌++◌, IfErr, IfOk, OnOk, codes};
+ghost use Rattle.std.specs.Prelude.{◌≡◌, ◌++◌, OnOk, codes};
 ghost use Rattle.std.specs.Fmt.{WritesInCalls};
-ghost use Rattle.std.specs.Io.KnownBytes.{Appends};
 ghost use Rattle.litmus_script.specs.Answer.{WritesLine};
-ghost use Rattle.litmus_script.specs.Play.{IsOfRun};
-ghost use Rattle.script_explained.specs.Delivery.{ExplainsDelivery, ExplainsNext, case_at, delivery_at, done_at};
-ghost use Rattle.script_explained.specs.Delivery.{text_of_made, told_of_delivery, who_takes};
+ghost use Rattle.script_explained.specs.Delivery.{case_at, delivery_at, done_at, text_of_made, told_of_delivery};
+ghost use Rattle.script_explained.specs.Delivery.{who_takes};
+ghost use Rattle.script_explained.specs.Step.{IsDelivery, MakesNext};
 ghost use Rattle.slice_core.specs.Facts.{IsSameSlice};
 ghost use Rattle.slice_answer.specs.Text.{text_of_delivered};
 ghost use Rattle.slice_core_plan.specs.Calls.{core_of, next_pick};
@@ -14,103 +13,94 @@ ghost use Rattle.slice_queues_message.specs.Pick.{channel_of};
 ghost use Rattle.slice_queues_message.specs.declared.channel.Class.TheVariants as classes;
 
 use super::look;
+use super::step::DeliveryStep;
 use address_map::CoreId;
-use litmus_script::{TextWriter, written};
-use litmus_text::TextFault;
 use mshr_file::MissFile;
 use script_text::Delivery;
 use slice_core::{Class, Delivered, DeliveredNext, Pick, Plan, SliceState};
 use std::fmt;
-use std::io::Write;
 use step_text::{Case, Done, Event, ExplainedDelivery, Who};
 
-/// Delivers the message in front of a channel of the slice with this number, and writes what became of it and why.
-pub(crate) fn deliver<F: MissFile, W: Write>(
+/// Delivers the message in front of a channel of the slice with this number.
+pub(crate) fn deliver<F: MissFile>(
     state: &mut SliceState<F>,
     slice: usize,
     pick: Pick,
-    out: &mut W,
-) -> Result<(), TextFault>
+) -> DeliveryStep
     ensures same { IsSameSlice state.old state.new }
-    ensures told { OnOk result (ExplainsDelivery slice pick (W.contents out.old)
-        (W.contents out.new) state.old state.new) }
-    ensures fault { IfErr result IsOfRun }
+    ensures pick { result.pick ≡ pick }
+    ensures made { IsDelivery slice result state.old state.new }
 {
     let case = case(state, slice, pick);
     let plan = state.plan(pick);
     let first = state.log().len();
     let delivered = state.deliver(pick);
     let done = done(state, first, pick);
-    let told = told(slice, pick, case, plan, done);
-    let mut answers = TextWriter { out };
-    written(write(delivered, told, &mut answers))
-}
-
-/// Makes the next delivery of the slice with this number, where one can be made, and writes the command that makes it
-/// and what became of it.
-pub(crate) fn deliver_next<F: MissFile, W: Write>(
-    state: &mut SliceState<F>,
-    slice: usize,
-    out: &mut W,
-) -> Result<DeliveredNext, TextFault>
-    ensures same { IsSameSlice state.old state.new }
-    ensures told { IfOk result (λ answer. ExplainsNext slice answer (W.contents out.old)
-        (W.contents out.new) state.old state.new) }
-    ensures fault { IfErr result IsOfRun }
-{
-    match state.next(Class::Any) {
-        DeliveredNext::Moved(pick) => deliver_picked(state, slice, pick, out),
-        _ => Ok(state.deliver_next(Class::Any)),
+    DeliveryStep {
+        pick,
+        delivered,
+        told: told(slice, pick, case, plan, done),
     }
 }
 
-/// Makes the next delivery of a slice, which is at this pick, and tells it.
-fn deliver_picked<F: MissFile, W: Write>(
+/// Makes the next delivery of the slice with this number, where one can be made. Returns the slice's answer, and the
+/// delivery's step.
+pub(crate) fn deliver_next<F: MissFile>(
+    state: &mut SliceState<F>,
+    slice: usize,
+) -> (DeliveredNext, Option<DeliveryStep>)
+    ensures same { IsSameSlice state.old state.new }
+    ensures made { MakesNext slice result.0 result.1 state.old state.new }
+{
+    match state.next(Class::Any) {
+        DeliveredNext::Moved(pick) => deliver_picked(state, slice, pick),
+        _ => (state.deliver_next(Class::Any), None),
+    }
+}
+
+/// Makes the next delivery of a slice, which is at this pick.
+fn deliver_picked<F: MissFile>(
     state: &mut SliceState<F>,
     slice: usize,
     pick: Pick,
-    out: &mut W,
-) -> Result<DeliveredNext, TextFault>
+) -> (DeliveredNext, Option<DeliveryStep>)
     requires { next_pick state.old classes.Any ≡ deliveries.Moved pick }
     ensures same { IsSameSlice state.old state.new }
-    ensures told { IfOk result (λ answer. ExplainsNext slice answer (W.contents out.old)
-        (W.contents out.new) state.old state.new) }
-    ensures fault { IfErr result IsOfRun }
+    ensures made { MakesNext slice result.0 result.1 state.old state.new }
 {
     let case = case(state, slice, pick);
     let plan = state.plan(pick);
     let first = state.log().len();
-    let delivered = state.deliver_next(Class::Any);
+    let answer = state.deliver_next(Class::Any);
     let done = done(state, first, pick);
-    let told = told(slice, pick, case, plan, done);
-    tell_made(pick, told, out)?;
-    Ok(delivered)
+    let step = DeliveryStep {
+        pick,
+        delivered: Delivered::Moved,
+        told: told(slice, pick, case, plan, done),
+    };
+    (answer, Some(step))
 }
 
 /// Writes the command that makes a delivery, and what there is to say of it.
-fn tell_made<W: Write>(
-    pick: Pick,
-    told: Option<ExplainedDelivery>,
-    out: &mut W,
-) -> Result<(), TextFault>
-    ensures told { OnOk result (Appends (W.contents out.old) (W.contents out.new) (text_of_made pick told)) }
-    ensures fault { IfErr result IsOfRun }
+pub(crate) fn write_made<W: fmt::Write>(step: DeliveryStep, out: &mut W) -> fmt::Result
+    ensures { OnOk result (WritesInCalls W.write_str_gives out.old (text_of_made step.pick step.told) out.new) }
 {
-    let mut answers = TextWriter { out };
-    written(write_made(pick, told, &mut answers))
-}
-
-fn write_made<W: fmt::Write>(
-    pick: Pick,
-    told: Option<ExplainedDelivery>,
-    out: &mut W,
-) -> fmt::Result
-    ensures { OnOk result (WritesInCalls W.write_str_gives out.old (text_of_made pick told) out.new) }
-{
-    let command = Delivery(pick);
-    match told {
+    let command = Delivery(step.pick);
+    match step.told {
         Some(told) => writeln!(out, "{command}   {told}"),
         None => writeln!(out, "{command}   no message waits"),
+    }
+}
+
+/// Writes the answer to a delivery, and what there is to say of it.
+pub(crate) fn write_delivered<W: fmt::Write>(step: DeliveryStep, out: &mut W) -> fmt::Result
+    ensures { OnOk result (WritesLine W.write_str_gives out.old
+        (text_of_delivered step.delivered ++ codes "   " ++ told_of_delivery step.told) out.new) }
+{
+    let delivered = step.delivered;
+    match step.told {
+        Some(told) => writeln!(out, "{delivered}   {told}"),
+        None => writeln!(out, "{delivered}   no message waits"),
     }
 }
 
@@ -132,21 +122,6 @@ fn told(
         plan,
         done,
     })
-}
-
-/// Writes the answer to a delivery, and what there is to say of it.
-fn write<W: fmt::Write>(
-    delivered: Delivered,
-    told: Option<ExplainedDelivery>,
-    out: &mut W,
-) -> fmt::Result
-    ensures { OnOk result (WritesLine W.write_str_gives out.old
-        (text_of_delivered delivered ++ codes "   " ++ told_of_delivery told) out.new) }
-{
-    match told {
-        Some(told) => writeln!(out, "{delivered}   {told}"),
-        None => writeln!(out, "{delivered}   no message waits"),
-    }
 }
 
 /// The case that the message in front of a channel meets.

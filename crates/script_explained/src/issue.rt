@@ -1,17 +1,19 @@
 //! Accesses and evictions.
-ghost use Rattle.std.specs.Prelude.{◌≡◌, ◌++◌, ◌<◌, length, IfErr, OnOk, codes};
+ghost use Rattle.std.specs.Prelude.{◌≡◌, ◌++◌, ◌<◌, length, IfErr, IfOk, OnOk, codes};
 ghost use Rattle.litmus_script.specs.Answer.{WritesLine, text_of_issued};
 ghost use Rattle.litmus_script.specs.Play.{IsOfRun};
-ghost use Rattle.script_explained.specs.Issue.{ExplainsEviction, ExplainsIssue, eviction_of, issue_at, named_by_answer};
+ghost use Rattle.script_explained.specs.Issue.{TellsAccess, TellsEviction, issue_at, named_by_answer};
 ghost use Rattle.script_explained.specs.Named.{text_of_copies};
+ghost use Rattle.script_explained.specs.Step.{IsAccess, IsEviction};
 ghost use Rattle.slice_answer.specs.Text.{text_of_evicted};
 ghost use Rattle.slice_core.specs.Facts.{IsSameSlice};
 ghost use Rattle.step_text.specs.Issue.{text_of_eviction, text_of_issue};
 
 use super::look;
 use super::named::{Named, named_lines, write_copies};
+use super::step::{AccessStep, EvictionStep};
 use address_map::{CoreId, LineAddr, Request};
-use litmus_script::{Issued, TextWriter, written};
+use litmus_script::{TextWriter, written};
 use litmus_text::TextFault;
 use mshr_file::MissFile;
 use slice_core::{CoreLines, Evicted, Pick, SliceState};
@@ -20,40 +22,27 @@ use std::fmt;
 use std::io::Write;
 use step_text::{Case, Event, Eviction, Issue, Who};
 
-/// Asks for an access of a core in the slice with this number, and writes what became of it and why.
-pub(crate) fn issue<F: MissFile, W: Write>(
-    alloc: Global,
+/// Asks for an access of a core in the slice with this number.
+pub(crate) fn issue<F: MissFile>(
     state: &mut SliceState<F>,
     slice: usize,
     core: CoreId,
     request: Request,
-    out: &mut W,
-) -> Result<(), TextFault>
+) -> Result<AccessStep, TextFault>
     requires { core.0 < length state.old.view.caches }
     ensures same { IsSameSlice state.old state.new }
-    ensures told { OnOk result (ExplainsIssue slice core request (W.contents out.old) (W.contents out.new)
-        state.old state.new) }
+    ensures core { IfOk result (λ access. access.core ≡ core) }
+    ensures request { IfOk result (λ access. access.decided.request ≡ request) }
+    ensures made { IfOk result (λ access. IsAccess slice access state.old state.new) }
     ensures fault { IfErr result IsOfRun }
 {
     let decided = decided(state, slice, core, request);
-    let which = Named::of(request.word.line(), decided.decision);
     let issued = litmus_script::issue(state, core, request)?;
-    let lines = named_lines(alloc, which, state, core)?;
-    let mut answers = TextWriter { out };
-    let asked = Asked {
+    Ok(AccessStep {
         core,
-        issued,
         decided,
-    };
-    written(write_issue(state, &asked, which, lines.as_slice(), &mut answers))
-}
-
-/// An access of a core that was asked for: what was decided, and what became of it.
-#[derive(Clone, Copy)]
-struct Asked {
-    core: CoreId,
-    issued: Issued,
-    decided: Issue,
+        issued,
+    })
 }
 
 /// The access, as it is decided.
@@ -80,39 +69,59 @@ fn decided<F: MissFile>(
     }
 }
 
+/// Writes what became of an access and why, with its copies as the slice has them behind it.
+pub(crate) fn write_access<F: MissFile, W: Write>(
+    alloc: Global,
+    state: &SliceState<F>,
+    access: AccessStep,
+    out: &mut W,
+) -> Result<(), TextFault>
+    requires { access.core.0 < length state.now.view.caches }
+    ensures told { OnOk result (TellsAccess access state.now.view (W.contents out.old) (W.contents out.new)) }
+    ensures fault { IfErr result IsOfRun }
+{
+    let Issue {
+        request,
+        decision,
+        ..
+    } = access.decided;
+    let which = Named::of(request.word.line(), decision);
+    let lines = named_lines(alloc, which, state, access.core)?;
+    let mut answers = TextWriter { out };
+    written(write_issue(state, &access, which, lines.as_slice(), &mut answers))
+}
+
 fn write_issue<F: MissFile, W: fmt::Write>(
     state: &SliceState<F>,
-    asked: &Asked,
+    access: &AccessStep,
     which: Named,
     lines: &[u64],
     out: &mut W,
 ) -> fmt::Result
     ensures { OnOk result (WritesLine W.write_str_gives out.old
-        (text_of_issued asked.now.issued ++ codes "   "
-        ++ (text_of_issue asked.now.decided ++ text_of_copies which state.now.view asked.now.core lines.now))
+        (text_of_issued access.now.issued ++ codes "   "
+        ++ (text_of_issue access.now.decided ++ text_of_copies which state.now.view access.now.core lines.now))
         out.new) }
 {
-    let issued = asked.issued;
-    let decided = asked.decided;
+    let issued = access.issued;
+    let decided = access.decided;
     write!(out, "{issued}   {decided}")?;
-    write_copies(which, lines, state, asked.core, out)?;
+    write_copies(which, lines, state, access.core, out)?;
     writeln!(out)
 }
 
-/// Asks for an eviction in the slice with this number, and writes what became of it and why.
-pub(crate) fn evict<F: MissFile, W: Write>(
-    alloc: Global,
+/// Asks for an eviction in the slice with this number.
+pub(crate) fn evict<F: MissFile>(
     state: &mut SliceState<F>,
     slice: usize,
     core: CoreId,
     line: LineAddr,
-    out: &mut W,
-) -> Result<(), TextFault>
+) -> EvictionStep
     requires { core.0 < length state.old.view.caches }
     ensures same { IsSameSlice state.old state.new }
-    ensures told { OnOk result (ExplainsEviction slice core line (W.contents out.old) (W.contents out.new)
-        state.old state.new) }
-    ensures fault { IfErr result IsOfRun }
+    ensures core { result.core ≡ core }
+    ensures line { result.line ≡ line }
+    ensures made { IsEviction slice result state.old state.new }
 {
     let case = Case {
         who: Who::Core {
@@ -122,35 +131,53 @@ pub(crate) fn evict<F: MissFile, W: Write>(
         event: Event::Eviction,
     };
     let answer = state.evict(core, line);
-    let evicted = Eviction {
+    let eviction = Eviction {
         slice,
         case,
         answer,
         state: look::copy(state, line, core),
         sent: state.front(Pick::Req(line, core)),
     };
-    let which = named(answer);
-    let lines = named_lines(alloc, which, state, core)?;
+    EvictionStep {
+        core,
+        line,
+        eviction,
+    }
+}
+
+/// Writes what became of an eviction and why, with the copies in its way as the slice has them behind it.
+pub(crate) fn write_evicted<F: MissFile, W: Write>(
+    alloc: Global,
+    state: &SliceState<F>,
+    step: EvictionStep,
+    out: &mut W,
+) -> Result<(), TextFault>
+    requires { step.core.0 < length state.now.view.caches }
+    ensures told { OnOk result (TellsEviction step state.now.view (W.contents out.old) (W.contents out.new)) }
+    ensures fault { IfErr result IsOfRun }
+{
+    let which = named(step.eviction.answer);
+    let lines = named_lines(alloc, which, state, step.core)?;
     let mut answers = TextWriter { out };
-    written(write_eviction(state, core, evicted, which, lines.as_slice(), &mut answers))
+    written(write_eviction(state, &step, which, lines.as_slice(), &mut answers))
 }
 
 fn write_eviction<F: MissFile, W: fmt::Write>(
     state: &SliceState<F>,
-    core: CoreId,
-    evicted: Eviction,
+    step: &EvictionStep,
     which: Named,
     lines: &[u64],
     out: &mut W,
 ) -> fmt::Result
     ensures { OnOk result (WritesLine W.write_str_gives out.old
-        (text_of_evicted evicted.answer ++ codes "   "
-        ++ (text_of_eviction evicted ++ text_of_copies which state.now.view core lines.now))
+        (text_of_evicted step.now.eviction.answer ++ codes "   "
+        ++ (text_of_eviction step.now.eviction ++ text_of_copies which state.now.view step.now.core lines.now))
         out.new) }
 {
-    let answer = evicted.answer;
-    write!(out, "{answer}   {evicted}")?;
-    write_copies(which, lines, state, core, out)?;
+    let eviction = step.eviction;
+    let answer = eviction.answer;
+    write!(out, "{answer}   {eviction}")?;
+    write_copies(which, lines, state, step.core, out)?;
     writeln!(out)
 }
 

@@ -1,26 +1,42 @@
-//! Runs scripts with what happened behind each answer.
+//! Runs scripts step by step, and tells what happened behind each answer.
 //!
-//! [`run_explained`] runs a script as [`litmus_script::run_script`] does, with a player of its own: behind an answer
-//! stands what the slice had planned or decided, and did, as `step_text` says it (specs/Explains.antt). What is printed
-//! is read from the slice just before the call and just behind it, so a call is made as without it. [`Explained`] is
-//! that player.
+//! A [`Step`] is a command that was played, as a value: what it names, what the slice had planned or decided, and what
+//! it came to (specs/Step.antt). [`make_step`] makes one on a machine; what it says is read from the slice just before the call
+//! and just behind it, so a call is made as without it. A [`Stepper`] plays a script's commands as steps, each delivery
+//! of a pump as one, and hands each to a [`StepWriter`]. [`Stepwise`] is the style of that.
+//!
+//! [`run_explained`] writes each step as its answer with what happened behind it, as `step_text` says it
+//! (specs/Explains.antt); [`Explaining`] is that writer.
+//!
+//! [`run_beside`] writes the lines of each answer beside the command's own line (specs/Rows.antt).
 //!
 //! [`delivery_text`] is the command of a delivery. [`expected`] says of a line at fault which word fits nothing, and what
 //! could stand there.
 #![tactic(auto)]
 
+pub use beside_style::run_beside;
 pub use delivery_command::delivery_text;
+pub use explaining::Explaining;
+pub use machine_step::make_step;
 pub use misfit::{Misfit, expected};
-pub use player::Explained;
-pub use style::run_explained;
+pub use step::{AccessStep, DeliveryStep, EvictionStep, HandStep, Step, WordStep};
+pub use stepper::{StepWriter, Stepper};
+pub use style::{Stepwise, play_steps, run_explained};
+pub use unrest::Unrest;
 
+mod beside;
+mod beside_style;
 mod delivery;
 mod delivery_command;
+mod explaining;
 mod hand;
 mod issue;
 mod look;
+mod machine_step;
 mod misfit;
 mod named;
-mod player;
+mod rows;
+mod step;
+mod stepper;
 mod style;
 mod unrest;

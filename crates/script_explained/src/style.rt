@@ -4,8 +4,10 @@ ghost use Rattle.litmus_script.specs.Play.{PlaysUpTo};
 ghost use Rattle.litmus_script.specs.Script.{Echoed, HasPlayed, IsRun, IsRunUpTo, commands_of};
 ghost use Rattle.litmus_text.specs.Statement.{statements_from};
 ghost use Rattle.script_explained.specs.Explains.{Explainingly};
+ghost use Rattle.script_explained.specs.Step.{PlaysSteps};
 
-use super::player::Explained;
+use super::explaining::Explaining;
+use super::stepper::{StepWriter, Stepper};
 use litmus_script::{Commands, Echo, Machine, Style, run_in_style};
 use litmus_text::TextFault;
 use mshr_file::MissFile;
@@ -25,21 +27,29 @@ pub fn run_explained<W: Write>(
     ensures fault { IfErr result (IsRunUpTo (Echoed echo Explainingly) (statements_from 0 (lines input.now))
         (W.contents out.old) (W.contents out.new)) }
 {
-    run_in_style(alloc, input, &Explaining { alloc, echo }, out)
+    let writer = Explaining { alloc };
+    let style = Stepwise {
+        alloc,
+        writer,
+        echo,
+    };
+    run_in_style(alloc, input, &style, out)
 }
 
-/// Each answer with what happened, alone or behind the command's own line.
+/// Commands are played as steps, which a writer writes: each alone, or behind the command's own line.
 #[derive(Clone, Copy)]
-struct Explaining {
-    alloc: Global,
-    echo: bool,
+pub struct Stepwise<S: StepWriter> {
+    pub alloc: Global,
+    pub writer: S,
+    pub echo: bool,
 }
 
-impl Style for Explaining {
+impl<S: StepWriter> Style for Stepwise<S> {
     ghost use Rattle.litmus_script.specs.Script.{Echoed};
-    ghost use Rattle.script_explained.specs.Explains.{Explainingly};
+    ghost use Rattle.script_explained.specs.Step.{PlaysSteps};
 
-    ghost playing = { λ style. Echoed style.echo Explainingly };
+    ghost playing = { λ style. Echoed style.echo
+        (PlaysSteps (S.writes style.writer) (S.writes_next style.writer)) };
 
     fn play<F: MissFile, W: Write>(
         &self,
@@ -47,44 +57,46 @@ impl Style for Explaining {
         commands: Commands<'_>,
         out: &mut W,
     ) -> Result<(), TextFault> {
-        let alloc = self.alloc;
-        let player = Explained { machine, alloc };
         if self.echo {
-            play_echoed(player, commands, out)
+            play_echoed(self.alloc, machine, self.writer, commands, out)
         } else {
-            play_alone(player, commands, out)
+            play_steps(self.alloc, machine, self.writer, commands, out)
         }
     }
 }
 
-/// Plays commands, each behind its own line.
-fn play_echoed<F: MissFile, W: Write>(
-    player: Explained<F>,
+/// Plays commands as steps, each behind the command's own line.
+fn play_echoed<F: MissFile, S: StepWriter, W: Write>(
+    alloc: Global,
+    machine: Machine<F>,
+    writer: S,
     commands: Commands<'_>,
     out: &mut W,
 ) -> Result<(), TextFault>
-    ensures played { OnOk result (HasPlayed (Echoed true Explainingly) player.machine.config
-        (commands_of commands.entry)
-        player.machine.slices.items (W.contents out.old) (W.contents out.new)) }
-    ensures fault { IfErr result (PlaysUpTo (Echoed true Explainingly player.machine.config) player.machine.config
-        (commands_of commands.entry) player.machine.slices.items (W.contents out.old) (W.contents out.new)) }
+    ensures played { OnOk result (HasPlayed (Echoed true (PlaysSteps (S.writes writer) (S.writes_next writer)))
+        machine.config (commands_of commands.entry) machine.slices.items (W.contents out.old) (W.contents out.new)) }
+    ensures fault { IfErr result (PlaysUpTo
+        (Echoed true (PlaysSteps (S.writes writer) (S.writes_next writer)) machine.config)
+        machine.config (commands_of commands.entry) machine.slices.items (W.contents out.old) (W.contents out.new)) }
 {
+    let player = Stepper::new(alloc, machine, writer);
     let mut echo = Echo { player };
     commands.play(&mut echo, out)
 }
 
-/// Plays commands.
-fn play_alone<F: MissFile, W: Write>(
-    player: Explained<F>,
+/// Plays commands as steps, which a writer writes.
+pub fn play_steps<F: MissFile, S: StepWriter, W: Write>(
+    alloc: Global,
+    machine: Machine<F>,
+    writer: S,
     commands: Commands<'_>,
     out: &mut W,
 ) -> Result<(), TextFault>
-    ensures played { OnOk result (HasPlayed (Echoed false Explainingly) player.machine.config
-        (commands_of commands.entry)
-        player.machine.slices.items (W.contents out.old) (W.contents out.new)) }
-    ensures fault { IfErr result (PlaysUpTo (Echoed false Explainingly player.machine.config) player.machine.config
-        (commands_of commands.entry) player.machine.slices.items (W.contents out.old) (W.contents out.new)) }
+    ensures played { OnOk result (HasPlayed (PlaysSteps (S.writes writer) (S.writes_next writer))
+        machine.config (commands_of commands.entry) machine.slices.items (W.contents out.old) (W.contents out.new)) }
+    ensures fault { IfErr result (PlaysUpTo (PlaysSteps (S.writes writer) (S.writes_next writer) machine.config)
+        machine.config (commands_of commands.entry) machine.slices.items (W.contents out.old) (W.contents out.new)) }
 {
-    let mut explained = player;
-    commands.play(&mut explained, out)
+    let mut stepper = Stepper::new(alloc, machine, writer);
+    commands.play(&mut stepper, out)
 }

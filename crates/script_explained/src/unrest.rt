@@ -1,23 +1,19 @@
 //! Words whose slice isn't quiet.
-ghost use Rattle.std.specs.Prelude.{◌≡◌, ◌++◌, ◌<◌, length, slice_get, IfErr, OnOk};
+ghost use Rattle.std.specs.Prelude.{◌≡◌, ◌++◌, ◌<◌, length, slice_get, OnOk};
 ghost use Rattle.std.specs.List.{range_with_len};
 ghost use Rattle.litmus_script.specs.Answer.{WritesLine, text_of_word};
-ghost use Rattle.litmus_script.specs.Play.{IsOfRun};
-ghost use Rattle.litmus_script.specs.Prints.{Adds};
 ghost use Rattle.script_explained.specs.Unrest.{first_unrest, replies_in, replies_of, told_of_word};
 
-use address_map::{Checked, CoreId};
-use litmus_script::{TextWriter, written};
-use litmus_text::TextFault;
+use super::step::WordStep;
+use address_map::{Checked, CoreId, WordAddr};
 use mshr_file::MissFile;
 use script_text::Delivery;
 use slice_core::{Pick, SliceState, TagState};
 use std::fmt;
-use std::io::Write;
 
 /// What keeps a slice from being quiet.
 #[derive(Clone, Copy)]
-pub(crate) enum Unrest {
+pub enum Unrest {
     /// The message in front of this channel is in flight.
     Message(Pick),
     /// The reply under this tag isn't handed out.
@@ -44,28 +40,31 @@ impl fmt::Display for Unrest {
     }
 }
 
-/// Writes the value of a word, or that its slice isn't quiet, and why.
-pub(crate) fn write_word<F: MissFile, W: Write>(
+/// The step of a word that is asked for, of which this is shown.
+pub(crate) fn word<F: MissFile>(
     config: &Checked,
     state: &SliceState<F>,
+    word: WordAddr,
     shown: Option<u64>,
-    out: &mut W,
-) -> Result<(), TextFault>
+) -> WordStep
     requires { length state.now.view.caches ≡ config.now.cores }
-    ensures told { OnOk result (Adds (W.contents out.old) (W.contents out.new)
-        (text_of_word shown ++ told_of_word shown (first_unrest state.now.view))) }
-    ensures fault { IfErr result IsOfRun }
+    ensures word { result.word ≡ word }
+    ensures shown { result.shown ≡ shown }
+    ensures unrest { result.unrest ≡ first_unrest state.now.view }
 {
-    let unrest = first(config, state);
-    let mut answers = TextWriter { out };
-    written(write(shown, unrest, &mut answers))
+    WordStep {
+        word,
+        shown,
+        unrest: first(config, state),
+    }
 }
 
-fn write<W: fmt::Write>(shown: Option<u64>, unrest: Option<Unrest>, out: &mut W) -> fmt::Result
+/// Writes the value of a word, or that its slice isn't quiet, and why.
+pub(crate) fn write_word<W: fmt::Write>(step: WordStep, out: &mut W) -> fmt::Result
     ensures { OnOk result (WritesLine W.write_str_gives out.old
-        (text_of_word shown ++ told_of_word shown unrest) out.new) }
+        (text_of_word step.shown ++ told_of_word step.shown step.unrest) out.new) }
 {
-    match (shown, unrest) {
+    match (step.shown, step.unrest) {
         (Some(value), _) => writeln!(out, "{value}"),
         (None, Some(unrest)) => writeln!(out, "not quiet   {unrest}"),
         (None, None) => writeln!(out, "not quiet"),

@@ -9,7 +9,7 @@ use super::player::Lister;
 use litmus_script::{Commands, Machine, Style, run_in_style};
 use litmus_text::TextFault;
 use mshr_file::MissFile;
-use script_explained::Explained;
+use script_explained::{Explaining, Stepper};
 use std::alloc::Global;
 use std::io::Write;
 
@@ -43,22 +43,23 @@ impl Style for Listing {
         out: &mut W,
     ) -> Result<(), TextFault> {
         let alloc = self.alloc;
-        play_listed(alloc, Explained { machine, alloc }, commands, out)
+        play_listed(alloc, machine, commands, out)
     }
 }
 
 /// Plays commands.
 fn play_listed<F: MissFile, W: Write>(
     alloc: Global,
-    player: Explained<F>,
+    machine: Machine<F>,
     commands: Commands<'_>,
     out: &mut W,
 ) -> Result<(), TextFault>
-    ensures played { OnOk result (HasPlayed Listed player.machine.config (commands_of commands.entry)
-        player.machine.slices.items (W.contents out.old) (W.contents out.new)) }
-    ensures fault { IfErr result (PlaysUpTo (Listed player.machine.config) player.machine.config
-        (commands_of commands.entry) player.machine.slices.items (W.contents out.old) (W.contents out.new)) }
+    ensures played { OnOk result (HasPlayed Listed machine.config (commands_of commands.entry)
+        machine.slices.items (W.contents out.old) (W.contents out.new)) }
+    ensures fault { IfErr result (PlaysUpTo (Listed machine.config) machine.config
+        (commands_of commands.entry) machine.slices.items (W.contents out.old) (W.contents out.new)) }
 {
+    let player = Stepper::new(alloc, machine, Explaining { alloc });
     let answer = Vec::new(alloc);
     let mut lister = Lister { player, answer };
     commands.play(&mut lister, out)

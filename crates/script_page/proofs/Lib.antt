@@ -1,6 +1,4 @@
-mod Commas
-mod LineLemmas
+mod Replies
 mod RestCalls
 mod RestLemmas
 mod RestSteps
-mod StepsLemmas

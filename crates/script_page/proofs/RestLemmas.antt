@@ -1,5 +1,5 @@
 -- What a step of a page doesn't give is as it was.
-use Rattle.std.proofs.Common.{◌≡◌, ◌≢◌, ℕ, ◌+◌, ◌*◌, ◌/◌, ◌%◌, ◌<◌, Bool, true, false, if◌then◌else◌, List, length, Option}
+use Rattle.std.proofs.Common.{◌≡◌, ℕ, ◌+◌, ◌*◌, ◌/◌, ◌%◌, ◌<◌, Bool, true, false, if◌then◌else◌, List, length, Option}
 use Rattle.std.proofs.Common.{Some, None, Result, ⊎_elim, inl, inr, refl, sym, ap, subst, arith}
 use Rattle.std.specs.Prelude.{◌==◌, ◌&&◌, nat_le, nat_lt}
 use Rattle.std.proofs.lemmas.Bool.{and_parts, eqb-true}
@@ -16,7 +16,10 @@ use Rattle.litmus_script.specs.Machine.{OneSlice}
 use Rattle.litmus_text.specs.Command.{IsInRange}
 use Rattle.litmus_text.specs.declared.command.Command.{Command}
 use Rattle.litmus_text.specs.declared.command.Command.TheVariants as commands
-use Rattle.script_explained.specs.Explains.{IsExplained, TellsNext}
+use Rattle.script_explained.specs.Step.{IsShown, IsStep, MakesNext, MakesStep, command_of, is_look}
+use Rattle.script_explained.specs.declared.step.DeliveryStep.{DeliveryStep}
+use Rattle.script_explained.specs.declared.step.Step.{Step}
+use Rattle.script_explained.specs.declared.step.Step.TheVariants as steps
 use Rattle.script_page.proofs.RestCalls.{delivery_leaves, evict_leaves, hand_leaves, issue_leaves}
 use Rattle.script_page.proofs.RestSteps.{Leaves}
 use Rattle.script_page.specs.Core.{lacks}
@@ -126,69 +129,87 @@ whole_of : (p : PartsView) → Holds p → IsWhole p.view
 unfolding Rattle.slice_core.specs.Facts.IsReached
 whole_of p holds = holds.reached.whole
 
-pub command_rest : (config : Config) (command : Command) (old new : List PartsView)
-    (before after : Option (List ℕ)) → AreSlices config old → IsInRange config command
-    → ((calls : ℕ) → command ≢ commands.Pump calls) → IsExplained config command old new before after
+same_rest : (scope : Option Scope) (old new : List PartsView) → new ≡ old → KeepsRest scope old new
+same_rest None old new same = same
+same_rest (Some scope) old new same = inl same
+
+-- what only shows something leaves the machine as it was
+look_same : (config : Config) (command : Command) (old new : List PartsView) (text : List ℕ)
+    → IsShown (is_look command) config command old new text → new ≡ old
+look_same config (commands.State line) old new text shown = shown.printed.0
+look_same config (commands.Log slice) old new text shown = shown.printed.0
+look_same config commands.Stats old new text shown = shown.printed.0
+look_same config commands.Waiting old new text shown = shown.printed.0
+look_same config commands.Show old new text shown = shown.printed.0
+look_same config (commands.Issue core request) old new text shown = shown.0
+look_same config (commands.Evict core line) old new text shown = shown.0
+look_same config (commands.Deliver pick) old new text shown = shown.0
+look_same config (commands.Hand core slice) old new text shown = shown.0
+look_same config (commands.Word word) old new text shown = shown.0
+look_same config (commands.Pump calls) old new text shown = shown.0
+
+step_rest : (config : Config) (step : Step) (old new : List PartsView) → AreSlices config old
+    → IsInRange config (command_of step) → IsStep config step old new
+    → KeepsRest (scope_of config (command_of step)) old new
+step_rest config (steps.Issue access) old new slices known one =
+    let is = slices _ one.before one.found in
+    inr (record {
+      before = one.before;
+      after = one.after;
+      found = one.found;
+      goes = issue_rest _ one.before access.core access.decided.request _ one.after (whole_of one.before is.0)
+          (subst (λ n. access.core.0 < n) (sym is.1) known) one.goes.answered.answers.made;
+      others = one.others;
+    })
+step_rest config (steps.Evict eviction) old new slices known one =
+    let is = slices _ one.before one.found in
+    inr (record {
+      before = one.before;
+      after = one.after;
+      found = one.found;
+      goes = evict_rest _ one.before eviction.core eviction.line _ one.after (whole_of one.before is.0)
+          (subst (λ n. eviction.core.0 < n) (sym is.1) known.0) one.goes.answered.made;
+      others = one.others;
+    })
+step_rest config (steps.Deliver delivery) old new slices known one =
+    let is = slices _ one.before one.found in
+    inr (record {
+      before = one.before;
+      after = one.after;
+      found = one.found;
+      goes = delivery_rest _ one.before delivery.pick _ one.after (whole_of one.before is.0) one.goes.answered.made;
+      others = one.others;
+    })
+step_rest config (steps.Hand hand) old new slices known one =
+    let is = slices _ one.before one.found in
+    inr (record {
+      before = one.before;
+      after = one.after;
+      found = one.found;
+      goes = hand_rest _ one.before hand.core _ one.after (subst (λ n. hand.core.0 < n) (sym is.1) known.0)
+          one.goes.made;
+      others = one.others;
+    })
+step_rest config (steps.Word word) old new slices known same = inl same.0
+step_rest config (steps.Pump calls pumped) old new slices known same = same
+step_rest config (steps.Show command text) old new slices known shown =
+    same_rest (scope_of config command) old new (look_same config command old new text.items shown)
+
+pub command_rest : (config : Config) (command : Command) (old new : List PartsView) (step : Step)
+    → AreSlices config old → IsInRange config command → MakesStep config command old new step
     → KeepsRest (scope_of config command) old new
-command_rest config (commands.Issue core request) old new before after slices known other told =
-    let one = told.explained in
-    let is = slices _ one.before one.found in
-    inr (record {
-      before = one.before;
-      after = one.after;
-      found = one.found;
-      goes = issue_rest _ one.before core request _ one.after (whole_of one.before is.0)
-          (subst (λ n. core.0 < n) (sym is.1) known) one.goes.answered.answers.made;
-      others = one.others;
-    })
-command_rest config (commands.Evict core line) old new before after slices known other told =
-    let one = told.explained in
-    let is = slices _ one.before one.found in
-    inr (record {
-      before = one.before;
-      after = one.after;
-      found = one.found;
-      goes = evict_rest _ one.before core line _ one.after (whole_of one.before is.0)
-          (subst (λ n. core.0 < n) (sym is.1) known.0) one.goes.answered.made;
-      others = one.others;
-    })
-command_rest config (commands.Deliver pick) old new before after slices known other told =
-    let one = told.explained in
-    let is = slices _ one.before one.found in
-    inr (record {
-      before = one.before;
-      after = one.after;
-      found = one.found;
-      goes = delivery_rest _ one.before pick _ one.after (whole_of one.before is.0) one.goes.answered.made;
-      others = one.others;
-    })
-command_rest config (commands.Hand core slice) old new before after slices known other told =
-    let one = told.explained in
-    let is = slices _ one.before one.found in
-    inr (record {
-      before = one.before;
-      after = one.after;
-      found = one.found;
-      goes = hand_rest _ one.before core _ one.after (subst (λ n. core.0 < n) (sym is.1) known.0)
-          one.goes.answered.made;
-      others = one.others;
-    })
-command_rest config (commands.Word word) old new before after slices known other told = inl told.explained.0
-command_rest config (commands.State line) old new before after slices known other told =
-    inl told.explained.printed.0
-command_rest config (commands.Log slice) old new before after slices known other told = told.explained.printed.0
-command_rest config commands.Stats old new before after slices known other told = told.explained.printed.0
-command_rest config commands.Waiting old new before after slices known other told = told.explained.printed.0
-command_rest config commands.Show old new before after slices known other told = told.explained.printed.0
-command_rest config (commands.Pump calls) old new before after slices known other told = absurd (other calls refl)
+command_rest config command old new step slices known made =
+    subst (λ (c : Command). KeepsRest (scope_of config c) old new) made.of_command
+    (step_rest config step old new slices
+    (subst (λ (c : Command). IsInRange config c) (sym made.of_command) known) made.made)
 
 -- a delivery of a pump
 pub delivered_rest : (config : Config) (slice : ℕ) (pick : Pick) (scope : Scope) (old new : List PartsView)
-    (before after : Option (List ℕ)) → AreSlices config old
-    → TellsNext old slice (deliveries.Moved pick) before after new
+    (made : Option DeliveryStep) → AreSlices config old
+    → OneSlice slice (MakesNext slice (deliveries.Moved pick) made) old new
     → scope_of config (commands.Deliver pick) ≡ Some scope
     → OneSlice slice (λ before after. LeavesRest scope before.view after.view) old new
-delivered_rest config slice pick scope old new before after slices told is =
+delivered_rest config slice pick scope old new step slices told is =
     let whole = whole_of told.before (slices _ told.before told.found).0 in
     let made = told.goes.answered.made in
     let rest = delivery_rest _ told.before pick delivered.Moved made.done whole made.made in

@@ -8,9 +8,9 @@ use Rattle.directory_table.specs.declared.row.DirSends.{DirSends}
 use Rattle.directory_table.specs.declared.row.DirSends.TheVariants as dir_sends
 use Rattle.litmus_text.specs.declared.command.Command.{Command}
 use Rattle.litmus_text.specs.declared.command.Command.TheVariants as commands
-use Rattle.script_page.specs.Access.{text_of_op}
-use Rattle.script_page.specs.Json.{list_of_cores}
-use Rattle.script_page.specs.Message.{text_of_ends, text_of_fate}
+use Rattle.slice_json.specs.Access.{text_of_op}
+use Rattle.slice_json.specs.Json.{list_of_cores}
+use Rattle.slice_json.specs.Message.{text_of_ends, text_of_fate}
 use Rattle.slice_answer.specs.declared.answer.Delivery.TheVariants as deliveries
 use Rattle.slice_answer.specs.declared.answer.Delivery.{Delivery}
 use Rattle.slice_core_plan.specs.Calls.{core_of}

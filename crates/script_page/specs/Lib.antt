@@ -1,10 +1,5 @@
-pub mod Access
 pub mod Call
-pub mod Copy
 pub mod Core
-pub mod Json
-pub mod Line
-pub mod Message
 pub mod Page
 pub mod Rest
 pub mod Scope

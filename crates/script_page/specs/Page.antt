@@ -9,7 +9,7 @@ use Rattle.litmus_text.specs.declared.fault.TextFault.{TextFault}
 use Rattle.mshr_file.specs.Miss.{Bound}
 use Rattle.protocol_tables.specs.Cache.{table_of as cache_table}
 use Rattle.protocol_tables.specs.Directory.{table_of as directory_table}
-use Rattle.script_page.specs.Json.{json_of}
+use Rattle.slice_json.specs.Json.{json_of}
 use Rattle.script_page.specs.Steps.{Steps}
 use Rattle.script_page.specs.declared.frame.arrows.TheConstants.{ARROWS}
 use Rattle.script_page.specs.declared.frame.controls.TheConstants.{STORY, TAIL}

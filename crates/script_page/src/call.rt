@@ -3,13 +3,11 @@ ghost use Rattle.std.specs.Prelude.{◌≡◌};
 ghost use Rattle.slice_core_plan.specs.Calls.{core_of};
 ghost use Rattle.slice_queues_message.specs.Pick.{channel_of};
 
-use super::access::Asked;
-use super::json::CoreList;
-use super::message::{Ends, fate_by};
 use address_map::{CoreId, LineAddr, SliceId};
 use directory_table::DirSends;
 use litmus_text::Command;
 use slice_core::{DeliveredNext, Pick, Plan, Transition};
+use slice_json::{Asked, CoreList, Ends, fate_by};
 use std::fmt;
 
 /// A command, by its name and what it names.

@@ -6,14 +6,14 @@ ghost use Rattle.litmus_script.specs.Play.{IsOfRun};
 ghost use Rattle.script_page.specs.Core.{list_of_replies, set_lines, text_of_begin, text_of_core, text_of_core_in};
 ghost use Rattle.script_page.specs.Core.{text_of_reply, text_with, victim_of};
 
-use super::copy::write_copy_in;
-use super::json::{write_comma, write_lines};
 use super::scope::Scope;
 use address_map::{CoreId, LineAddr};
+use json_text::write_comma;
 use litmus_script::{TextWriter, written};
 use litmus_text::TextFault;
 use mshr_file::MissFile;
 use slice_core::{CoreLines, SliceState, TagState};
+use slice_json::{write_copy_in, write_lines};
 use std::alloc::{AllocError, Global};
 use std::fmt;
 use std::io::Write;

@@ -27,13 +27,14 @@ use super::frame::marks::MARKS;
 use super::frame::place::PLACE;
 use super::frame::run::RUN;
 use super::frame::time::TIME;
-use super::json::write_json;
-use super::player::Paged;
+use super::writer::PageWriter;
 use address_map::Checked;
 use litmus_script::{Commands, Machine, Script, TextWriter, written};
 use litmus_text::TextFault;
 use mshr_file::{ExplicitFile, InvertedFile, MissFile, MissKind};
 use protocol_tables::{write_cache_table, write_directory_table};
+use script_explained::play_steps;
+use slice_json::write_json;
 use std::alloc::Global;
 use std::fmt;
 use std::io::Write;
@@ -133,8 +134,7 @@ fn steps<F: MissFile, W: Write>(
     ensures fault { IfErr result (λ fault. IsOfRun fault
         ⊎ PageStopsAt machine.config (commands_of commands.entry) machine.slices.items fault) }
 {
-    let mut player = Paged::new(alloc, machine);
-    match commands.play(&mut player, out) {
+    match play_steps(alloc, machine, PageWriter { alloc }, commands, out) {
         Ok(()) => end(guess, out),
         Err(fault) => {
             // where this can't be written either, there is nobody left to tell

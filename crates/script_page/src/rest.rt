@@ -1,11 +1,13 @@
 //! What a step doesn't give.
-ghost use Rattle.std.specs.Prelude.{◌≡◌, ◌≢◌, ℕ, List, Option, Some};
+ghost use Rattle.std.specs.Prelude.{◌≡◌, ℕ, List, Option, Some};
 ghost use Rattle.address_map.specs.declared.config.Config.{Config};
 ghost use Rattle.litmus_script.specs.Machine.{OneSlice};
 ghost use Rattle.litmus_text.specs.Command.{IsInRange};
 ghost use Rattle.litmus_text.specs.declared.command.Command.{Command};
 ghost use Rattle.litmus_text.specs.declared.command.Command.TheVariants as commands;
-ghost use Rattle.script_explained.specs.Explains.{IsExplained, TellsNext};
+ghost use Rattle.script_explained.specs.Step.{MakesNext, MakesStep};
+ghost use Rattle.script_explained.specs.declared.step.DeliveryStep.{DeliveryStep};
+ghost use Rattle.script_explained.specs.declared.step.Step.{Step};
 ghost use Rattle.script_page.specs.Rest.{AreSlices, KeepsRest, LeavesRest};
 ghost use Rattle.script_page.specs.Scope.{scope_of};
 ghost use Rattle.script_page.specs.declared.scope.Scope.{Scope};
@@ -16,13 +18,12 @@ ghost use Rattle.slice_queues_message.specs.declared.channel.Pick.{Pick};
 /// What the step of a command doesn't give is as it was, and so is what the step of a pump's delivery doesn't give: so
 /// what was given last of a line and of a core's copy is what the machine has.
 pub fn what_is_not_given_stays()
-    ensures commands { (config : Config) (command : Command) (old new : List PartsView)
-        (before after : Option (List ℕ)) → AreSlices config old → IsInRange config command
-        → ((calls : ℕ) → command ≢ commands.Pump calls) → IsExplained config command old new before after
+    ensures commands { (config : Config) (command : Command) (old new : List PartsView) (step : Step)
+        → AreSlices config old → IsInRange config command → MakesStep config command old new step
         → KeepsRest (scope_of config command) old new }
     ensures deliveries { (config : Config) (slice : ℕ) (pick : Pick) (scope : Scope) (old new : List PartsView)
-        (before after : Option (List ℕ)) → AreSlices config old
-        → TellsNext old slice (deliveries.Moved pick) before after new
+        (made : Option DeliveryStep) → AreSlices config old
+        → OneSlice slice (MakesNext slice (deliveries.Moved pick) made) old new
         → scope_of config (commands.Deliver pick) ≡ Some scope
         → OneSlice slice (λ before after. LeavesRest scope before.view after.view) old new }
 {}

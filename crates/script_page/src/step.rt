@@ -3,101 +3,50 @@ ghost use Rattle.std.specs.Prelude.{◌≡◌, IfErr, IfOk, OnOk, codes};
 ghost use Rattle.std.specs.Fmt.{WritesInCalls};
 ghost use Rattle.std.specs.Io.KnownBytes.{Appends};
 ghost use Rattle.litmus_script.specs.Play.{IsOfRun};
-ghost use Rattle.script_page.specs.Step.{WritesStep, before_of, first_of, length_in, no_changes, planned_of, text_of_begin};
-ghost use Rattle.script_page.specs.Step.{text_of_call, text_of_changes, text_of_core_by, text_of_front, text_of_lines};
-ghost use Rattle.script_page.specs.Step.{text_of_next};
+ghost use Rattle.script_page.specs.Step.{WritesStep, first_of, first_of_issued, first_of_told, no_changes, plan_of};
+ghost use Rattle.script_page.specs.Step.{planned_of, text_of_begin, text_of_call, text_of_changes, text_of_core_by};
+ghost use Rattle.script_page.specs.Step.{text_of_front, text_of_lines, text_of_next};
 
-use super::access::write_log;
 use super::call::{Call, Next, Planned};
 use super::core_part::{victim_of, write_core_in, write_null, write_whole};
-use super::json::write_json;
-use super::line::write_line_in;
 use super::scope::{Scope, scope_of};
-use litmus_script::{Machine, TextWriter, written};
+use litmus_script::{Issued, Machine, TextWriter, written};
 use litmus_text::{Command, TextFault};
 use mshr_file::MissFile;
-use slice_core::{Class, DeliveredNext, SliceState};
+use script_explained::Step;
+use slice_core::{Class, DeliveredNext, Plan, SliceState};
+use slice_json::{write_json, write_line_in, write_log};
 use stats_report::write_text;
 use std::alloc::Global;
 use std::fmt;
 use std::io::Write;
+use step_text::ExplainedDelivery;
 
-/// What is seen of a command before it is played: how long the log of its slice is, and what is planned for the message
-/// that it delivers.
+/// A step as a page tells it: its place in the script, the text of its command, and its answer with what happened.
 #[derive(Clone, Copy)]
-pub(crate) struct Before {
-    pub(crate) first: usize,
-    pub(crate) planned: Option<Planned>,
-}
-
-impl Before {
-    pub(crate) fn of<F: MissFile>(machine: &Machine<F>, command: Command) -> Self
-        ensures { result ≡ before_of machine.now.config command machine.now.slices.items }
-    {
-        Before {
-            first: first_of(machine, command),
-            planned: planned_of(machine, command),
-        }
-    }
-}
-
-/// How long the log of a command's slice is.
-fn first_of<F: MissFile>(machine: &Machine<F>, command: Command) -> usize
-    ensures { result ≡ first_of machine.now.config command machine.now.slices.items }
-{
-    match scope_of(&machine.config, command) {
-        Some(scope) => length_in(machine, scope.slice),
-        None => 0,
-    }
-}
-
-fn length_in<F: MissFile>(machine: &Machine<F>, slice: usize) -> usize
-    ensures { result ≡ length_in machine.now.slices.items slice }
-{
-    match machine.slices.get(slice) {
-        Some(state) => state.log().len(),
-        None => 0,
-    }
-}
-
-/// What is planned for the message that a command delivers.
-fn planned_of<F: MissFile>(machine: &Machine<F>, command: Command) -> Option<Planned>
-    ensures { result ≡ planned_of machine.now.config command machine.now.slices.items }
-{
-    let Command::Deliver(pick) = command else {
-        return None;
-    };
-    let state = machine.slices.get(machine.slice_of(pick.line()))?;
-    let plan = state.plan(pick);
-    Some(Planned { pick, plan })
-}
-
-/// A step: a command's place in the script and its text, its answer, and what was seen of it before it was played.
-#[derive(Clone, Copy)]
-pub(crate) struct Step<'a> {
+pub(crate) struct PageStep<'a> {
     pub(crate) number: usize,
     pub(crate) line: &'a [u8],
     pub(crate) answer: &'a [u8],
-    pub(crate) command: Command,
-    pub(crate) before: Before,
+    pub(crate) step: &'a Step,
 }
 
-/// Writes a step as an object of JSON, on a machine that has played it.
+/// Writes a step as an object of JSON, on a machine that has made it.
 pub(crate) fn write_step<F: MissFile, W: Write>(
     alloc: Global,
     machine: &Machine<F>,
-    step: &Step<'_>,
+    told: &PageStep<'_>,
     out: &mut W,
 ) -> Result<(), TextFault>
-    ensures written { OnOk result (WritesStep machine.now.config step.now.number step.now.line.now
-        step.now.answer.now step.now.command step.now.before machine.now.slices.items
+    ensures written { OnOk result (WritesStep machine.now.config told.now.number told.now.line.now
+        told.now.answer.now told.now.step.now machine.now.slices.items
         (W.contents out.old) (W.contents out.new)) }
     ensures fault { IfErr result IsOfRun }
 {
-    let scope = scope_of(&machine.config, step.command);
+    let scope = scope_of(&machine.config, told.step.command());
     // what takes memory comes first, so that a step is written whole or not at all
     let core = core_text(alloc, machine, scope)?;
-    begin(machine, step, scope, out)?;
+    begin(machine, told, scope, out)?;
     tell(core.as_slice(), out)?;
     end(out)
 }
@@ -132,35 +81,87 @@ fn tell<W: Write>(text: &[u8], out: &mut W) -> Result<(), TextFault>
 /// Writes all of a step but what the core has.
 fn begin<F: MissFile, W: Write>(
     machine: &Machine<F>,
-    step: &Step<'_>,
+    told: &PageStep<'_>,
     scope: Option<Scope>,
     out: &mut W,
 ) -> Result<(), TextFault>
     ensures begun { OnOk result (Appends (W.contents out.old) (W.contents out.new)
-        (text_of_front step.now.number step.now.line.now step.now.answer.now step.now.command step.now.before
+        (text_of_front told.now.number told.now.line.now told.now.answer.now told.now.step.now
         scope machine.now.slices.items)) }
     ensures fault { IfErr result IsOfRun }
 {
     let mut answers = TextWriter { out };
-    written(write_front(machine, step, scope, &mut answers))
+    written(write_front(machine, told, scope, &mut answers))
 }
 
 fn write_front<F: MissFile, W: fmt::Write>(
     machine: &Machine<F>,
-    step: &Step<'_>,
+    told: &PageStep<'_>,
     scope: Option<Scope>,
     out: &mut W,
 ) -> fmt::Result
     ensures { OnOk result (WritesInCalls W.write_str_gives out.old
-        (text_of_front step.now.number step.now.line.now step.now.answer.now step.now.command step.now.before
+        (text_of_front told.now.number told.now.line.now told.now.answer.now told.now.step.now
         scope machine.now.slices.items) out.new) }
 {
-    write_place(step.number, out)?;
-    write_json(step.line, out)?;
+    write_place(told.number, out)?;
+    write_json(told.line, out)?;
     write!(out, ",\"answer\":")?;
-    write_json(step.answer, out)?;
-    write_call(step.command, step.before.planned, out)?;
-    write_changes(machine, scope, step.before.first, out)
+    write_json(told.answer, out)?;
+    write_call(told.step.command(), planned_of(told.step), out)?;
+    write_changes(machine, scope, told.step, out)
+}
+
+/// What was planned for the message that a step delivers.
+fn planned_of(step: &Step) -> Option<Planned>
+    ensures { result ≡ planned_of step.now }
+{
+    let Step::Deliver(delivery) = step else {
+        return None;
+    };
+    Some(Planned {
+        pick: delivery.pick,
+        plan: plan_of(delivery.told),
+    })
+}
+
+const fn plan_of(told: Option<ExplainedDelivery>) -> Plan
+    ensures { result ≡ plan_of told }
+{
+    match told {
+        Some(told) => told.plan,
+        None => Plan::Nothing,
+    }
+}
+
+/// The number of the first access that a step performed; the log's length where it performed none.
+fn first_of(step: &Step, length: usize) -> usize
+    ensures { result ≡ first_of step.now length }
+{
+    match step {
+        Step::Issue(access) => first_of_issued(access.issued, length),
+        Step::Deliver(delivery) => first_of_told(delivery.told, length),
+        Step::Evict(_) | Step::Hand(_) | Step::Word(_) | Step::Pump { .. } | Step::Show { .. } =>
+            length,
+    }
+}
+
+const fn first_of_issued(issued: Issued, length: usize) -> usize
+    ensures { result ≡ first_of_issued issued length }
+{
+    match issued {
+        Issued::Done { number, .. } => number as usize,
+        Issued::Pending(_) | Issued::Stall(_) | Issued::Refused(_) => length,
+    }
+}
+
+const fn first_of_told(told: Option<ExplainedDelivery>, length: usize) -> usize
+    ensures { result ≡ first_of_told told length }
+{
+    match told {
+        Some(told) => told.done.first,
+        None => length,
+    }
 }
 
 fn write_place<W: fmt::Write>(number: usize, out: &mut W) -> fmt::Result
@@ -183,17 +184,17 @@ fn write_call<W: fmt::Write>(command: Command, planned: Option<Planned>, out: &m
 fn write_changes<F: MissFile, W: fmt::Write>(
     machine: &Machine<F>,
     scope: Option<Scope>,
-    first: usize,
+    step: &Step,
     out: &mut W,
 ) -> fmt::Result
     ensures { OnOk result (WritesInCalls W.write_str_gives out.old
-        (text_of_changes scope first machine.now.slices.items) out.new) }
+        (text_of_changes scope step.now machine.now.slices.items) out.new) }
 {
     let Some(scope) = scope else {
         return write_nothing(out);
     };
     match machine.slices.get(scope.slice) {
-        Some(state) => write_lines_of(state, scope, first, out),
+        Some(state) => write_lines_of(state, scope, step, out),
         None => write_nothing(out),
     }
 }
@@ -210,13 +211,14 @@ fn write_nothing<W: fmt::Write>(out: &mut W) -> fmt::Result
 fn write_lines_of<F: MissFile, W: fmt::Write>(
     state: &SliceState<F>,
     scope: Scope,
-    first: usize,
+    step: &Step,
     out: &mut W,
 ) -> fmt::Result
     ensures { OnOk result (WritesInCalls W.write_str_gives out.old
-        (text_of_lines scope first state.now) out.new) }
+        (text_of_lines scope step.now state.now) out.new) }
 {
     let victim = victim_of(state, scope);
+    let first = first_of(step, state.log().len());
     write!(out, "\"line\":")?;
     write_line_in(state, scope.line, out)?;
     write!(out, ",\"victim\":")?;

@@ -10,7 +10,7 @@ use Rattle.litmus_text.specs.Command.{IsRead}
 use Rattle.litmus_text.specs.Statement.{kept_words, statements_from}
 use Rattle.litmus_text.specs.declared.command.Command.{Command}
 use Rattle.mshr_file.specs.Miss.{Bound}
-use Rattle.script_explained.specs.Explains.{Explainingly, IsExplained}
+use Rattle.script_explained.specs.Explains.{Explainingly}
 use Rattle.slice_core_plan.specs.Calls.{PartsView}
 use Rattle.script_prompt.specs.declared.kinds.AnySession.{AnySession}
 use Rattle.script_prompt.specs.declared.kinds.AnySession.TheVariants as any_sessions
@@ -21,7 +21,7 @@ pub record PlaysLine (config : Config) (words : List (List ℕ)) (line : List �
     (old new : List PartsView)
     (before after : Option (List ℕ)) (old_script new_script : List ℕ) : Type 0 where
   pub read : IsRead config words command
-  pub told : IsExplained config command old new before after
+  pub told : Explainingly config old line command before after new
   pub kept : new_script ≡ old_script ++ (line ++ codes "\n")
 
 -- .. whatever stood printed before it

@@ -13,7 +13,7 @@ use address_map::{Checked, Config};
 use litmus_script::{Commands, Echo, Machine, Script};
 use litmus_text::{Settings, Statement, TextFault};
 use mshr_file::{ExplicitFile, InvertedFile, MissFile, MissKind};
-use script_explained::Explained;
+use script_explained::{Explaining, Stepper};
 use std::alloc::Global;
 use std::io::Write;
 
@@ -69,7 +69,7 @@ impl AnySession {
         let Settings { config, .. } = Settings::new(alloc);
         let config = config.check().map_err(TextFault::Config)?;
         let machine = Machine::build(alloc, config)?;
-        let player = Explained { machine, alloc };
+        let player = Stepper::new(alloc, machine, Explaining { alloc });
         Ok(AnySession::Explicit(Session { player, script }))
     }
 
@@ -106,15 +106,14 @@ fn play_on<F: MissFile, W: Write>(
     config: Checked,
     commands: Commands<'_>,
     out: &mut W,
-) -> Result<Explained<F>, TextFault>
+) -> Result<Stepper<F, Explaining>, TextFault>
     ensures config { IfOk result (λ player. player.machine.config ≡ config) }
     ensures played { IfOk result (λ player. IsPlayedTo config (F.bound_by config) (commands_of commands.entry)
         player.machine.slices.items (W.contents out.old) (W.contents out.new)) }
 {
     let machine = Machine::build(alloc, config)?;
-    let mut echo = Echo {
-        player: Explained { machine, alloc },
-    };
+    let player = Stepper::new(alloc, machine, Explaining { alloc });
+    let mut echo = Echo { player };
     commands.play(&mut echo, out)?;
     Ok(echo.player)
 }

@@ -14,7 +14,7 @@ use address_map::{Checked, CoreId, Op, Request, SliceId, WordAddr};
 use litmus_script::{Player, TextWriter, written};
 use litmus_text::{Command, Statement, Statements, TextFault, parse_command};
 use mshr_file::MissFile;
-use script_explained::Explained;
+use script_explained::{Explaining, Stepper};
 use script_text::write_command;
 use slice_core::DeliveredNext;
 use std::fmt::Write as _;
@@ -23,7 +23,7 @@ use std::io::Write;
 /// A machine, and the script so far: the lines that it was configured by and has played.
 #[derive(Drop)]
 pub struct Session<F: MissFile> {
-    pub player: Explained<F>,
+    pub player: Stepper<F, Explaining>,
     /// Each line with its end.
     pub script: Vec<u8>,
 }

@@ -1,19 +1,10 @@
 use Rattle.std.proofs.Common.{rules}
-use Rattle.std.proofs.KnownBytes.{Appends-of_writes}
 use Rattle.litmus_script.proofs.CallLemmas.{delivered}
-use Rattle.litmus_script.proofs.WriteLemmas.{on_written}
 use Rattle.script_explained.proofs.delivery.deliver.Goals as goal
 
-pub returns-clause-told : goal.returns-clause-told
-returns-clause-told g c =
-    let contents = g.W.Write.contents in
-    on_written c.write.result c.written.result c.written.ensures.fine
-    (λ wrote.
-    let (name, bytes) = Appends-of_writes (λ s. s.out.ghost_name) (λ s. contents s.out.now) _ _ _ wrote in
-    record {
-      answer = _;
-      answered = delivered c.args.state.now c.deliver-delivered.new.self c.args.pick
-          c.deliver-delivered.result c.deliver-delivered.ensures.step;
-      written = search rules;
-    })
-    c.write.ensures
+pub returns-clause-made : goal.returns-clause-made
+returns-clause-made g c = record {
+  answered = delivered c.args.state.now c.deliver-delivered.new.self c.args.pick c.deliver-delivered.result
+      c.deliver-delivered.ensures.step;
+  told = search rules;
+}

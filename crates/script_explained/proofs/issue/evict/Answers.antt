@@ -1,21 +1,10 @@
 use Rattle.std.proofs.Common.{rules}
-use Rattle.std.proofs.KnownBytes.{Appends-of_writes}
 use Rattle.litmus_script.proofs.CallLemmas.{evicted}
-use Rattle.litmus_script.proofs.WriteLemmas.{on_written}
 use Rattle.script_explained.proofs.issue.evict.Goals as goal
 
-pub returns-clause-told : goal.returns-clause-told
-returns-clause-told g c =
-    let contents = g.W.Write.contents in
-    on_written c.write_eviction.result c.written.result c.written.ensures.fine
-    (λ wrote.
-    let (name, bytes) = Appends-of_writes (λ s. s.out.ghost_name) (λ s. contents s.out.now) _ _ _ wrote in
-    record {
-      answer = _;
-      answered = evicted c.args.state.now c.evict-answer.new.self c.args.core c.args.line
-          c.evict-answer.result c.evict-answer.ensures.step;
-      numbers = c.in_ok-lines.lines.items;
-      are_named = search rules;
-      written = search rules;
-    })
-    c.write_eviction.ensures
+pub returns-clause-made : goal.returns-clause-made
+returns-clause-made g c = record {
+  answered = evicted c.args.state.now c.evict-answer.new.self c.args.core c.args.line c.evict-answer.result
+      c.evict-answer.ensures.step;
+  told = search rules;
+}

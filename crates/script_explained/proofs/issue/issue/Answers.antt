@@ -1,19 +1,20 @@
-use Rattle.std.proofs.Common.{rules}
-use Rattle.std.proofs.KnownBytes.{Appends-of_writes}
-use Rattle.litmus_script.proofs.WriteLemmas.{on_written}
+use Rattle.std.proofs.Common.{◌≡◌, ◌∙◌, ap, subst, sym}
+use Rattle.address_map.specs.declared.request.Request.{Request}
+use Rattle.litmus_script.specs.Issued.{Issues}
+use Rattle.script_explained.specs.Issue.{issue_at}
+use Rattle.step_text.specs.declared.issue.Issue.{Issue}
 use Rattle.script_explained.proofs.issue.issue.Goals as goal
 
-pub returns-clause-told : goal.returns-clause-told
-returns-clause-told g c =
-    let contents = g.W.Write.contents in
-    on_written c.write_issue.result c.written.result c.written.ensures.fine
-    (λ wrote.
-    let (name, bytes) = Appends-of_writes (λ s. s.out.ghost_name) (λ s. contents s.out.now) _ _ _ wrote in
+pub returns-clause-request : goal.returns-clause-request
+returns-clause-request g c = ap (λ (i : Issue). i.request) c.decided-decided.ensures
+
+pub returns-clause-made : goal.returns-clause-made
+returns-clause-made g c =
+    let old = c.args.state.now in
+    let new = c.issue.new.state in
+    let asked : c.decided-decided.result.request ≡ c.args.request = ap (λ (i : Issue). i.request) c.decided-decided.ensures in
     record {
-      issued = _;
-      answered = c.in_ok-issued.ensures.issued;
-      numbers = c.in_ok-lines.lines.items;
-      are_named = search rules;
-      written = search rules;
-    })
-    c.write_issue.ensures
+      answered = subst (λ (r : Request). Issues c.args.core r c.in_ok-issued.issued old new) (sym asked) c.in_ok-issued.ensures.issued;
+      decided = c.decided-decided.ensures
+          ∙ ap (λ (r : Request). issue_at c.args.slice old.view c.args.core r) (sym asked);
+    }

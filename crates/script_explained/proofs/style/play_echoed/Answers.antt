@@ -1,45 +1,60 @@
-use Rattle.std.proofs.Common.{◌≡◌, refl, subst, true, ◌∙◌}
+use Rattle.std.proofs.Common.{◌≡◌, ap, true, ◌∙◌}
 use Rattle.std.proofs.lemmas.Result.{IfErr-weaker, on_ok_weaker}
 use Rattle.litmus_script.proofs.PlayLemmas.{all_shown, up_to_shown}
 use Rattle.litmus_script.specs.Script.{Echoed}
-use Rattle.script_explained.specs.Explains.{Explainingly, IsExplained}
+use Rattle.script_explained.specs.Step.{PlaysSteps}
+use Rattle.script_explained.proofs.StepLemmas.{played_from, steps_shown, stopped_from}
 use Rattle.script_explained.proofs.style.play_echoed.Goals as goal
 
 pub returns-clause-played : goal.returns-clause-played
 returns-clause-played g c =
-    let config = c.args.player.machine.config in
+    let writes = g.S.StepWriter.writes in
+    let writes_next = g.S.StepWriter.writes_next in
+    let config = c.args.machine.config in
+    let writer = c.args.writer in
+    let new = c.new-player.ensures in
+    let of_config = ap (λ machine. machine.config) new.machine in
+    let of_slices = ap (λ machine. machine.slices.items) new.machine in
     on_ok_weaker c.play.result
     (λ played. (
       _,
-      all_shown (λ m. m.player.machine.slices.items) (λ m. m.player.machine.config ≡ config) _
-          (Echoed true Explainingly config)
+      played_from _ _ _ _ _ _ _ _ _ of_config of_slices
+          (all_shown (λ m. m.player.machine.slices.items)
+          (λ m. (m.player.machine.config ≡ config) × (m.player.writer ≡ writer)) _
+          (Echoed true (PlaysSteps (writes writer) (writes_next writer)) config)
           (λ old new line command before after same made. (
-            made.2.0 ∙ same,
+            (made.2.0 ∙ same.0, made.2.1 ∙ same.1),
             (
               made.0,
               made.1,
-              subst (λ k. IsExplained k command old.player.machine.slices.items
-                  new.player.machine.slices.items made.0 after) same made.2.1,
+              steps_shown writes writes_next _ _ _ _ _ _ _ _ _ _ same.0 same.1 made.2.2,
             ),
           ))
-          config _ _ _ _ _ refl played,
+          _ _ _ _ _ _ (of_config, new.writer) played),
     ))
     c.play.ensures.played
 
 pub returns-clause-fault : goal.returns-clause-fault
 returns-clause-fault g c =
-    let config = c.args.player.machine.config in
+    let writes = g.S.StepWriter.writes in
+    let writes_next = g.S.StepWriter.writes_next in
+    let config = c.args.machine.config in
+    let writer = c.args.writer in
+    let new = c.new-player.ensures in
+    let of_config = ap (λ machine. machine.config) new.machine in
+    let of_slices = ap (λ machine. machine.slices.items) new.machine in
     IfErr-weaker c.play.result _ _
-    (λ fault played. up_to_shown (λ m. m.player.machine.slices.items) (λ m. m.player.machine.config ≡ config) _
-    (Echoed true Explainingly config)
+    (λ fault played. stopped_from _ _ _ _ _ _ _ _ _ of_config of_slices
+    (up_to_shown (λ m. m.player.machine.slices.items)
+    (λ m. (m.player.machine.config ≡ config) × (m.player.writer ≡ writer)) _
+    (Echoed true (PlaysSteps (writes writer) (writes_next writer)) config)
     (λ old new line command before after same made. (
-      made.2.0 ∙ same,
+      (made.2.0 ∙ same.0, made.2.1 ∙ same.1),
       (
         made.0,
         made.1,
-        subst (λ k. IsExplained k command old.player.machine.slices.items
-            new.player.machine.slices.items made.0 after) same made.2.1,
+        steps_shown writes writes_next _ _ _ _ _ _ _ _ _ _ same.0 same.1 made.2.2,
       ),
     ))
-    config _ _ _ _ _ refl played)
+    _ _ _ _ _ _ (of_config, new.writer) played))
     c.play.ensures.fault

@@ -2,7 +2,7 @@ use Rattle.std.proofs.Common.{refl}
 use Rattle.std.proofs.Output.{writes_in_calls_append, writes_in_calls_single}
 use Rattle.std.proofs.lemmas.Result.{on_ok_weaker}
 use Rattle.script_page.specs.Page.{code_of_page}
-use Rattle.script_page.proofs.StepsLemmas.{on_ok_from}
+use Rattle.litmus_script.proofs.WriteLemmas.{on_ok_from}
 use Rattle.script_page.proofs.page.write_code.Goals as goal
 
 pub returns : goal.returns

@@ -7,8 +7,13 @@ returns-clause-written g c =
     on_ok_weaker c.end.result
     (λ ended. record {
       first = contents c.begin.new.out;
-      begun = rw c.scope_of-scope.ensures at c.in_ok-begin.ensures.begun;
+      begun = rw (c.scope_of-scope.ensures, c.command.ensures) at c.in_ok-begin.ensures.begun;
       last = contents c.tell.new.out;
-      core = rw (c.as_slice.ensures.value, c.in_ok-core.ensures.text, c.scope_of-scope.ensures) at c.in_ok-tell.ensures.told;
+      core = rw (
+        c.as_slice.ensures.value,
+        c.in_ok-core.ensures.text,
+        c.scope_of-scope.ensures,
+        c.command.ensures,
+      ) at c.in_ok-tell.ensures.told;
       ended = ended;
     }) c.end.ensures.ended

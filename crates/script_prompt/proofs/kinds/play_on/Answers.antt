@@ -1,35 +1,35 @@
-use Rattle.std.proofs.Common.{◌≡◌, subst, true, ◌∙◌}
-use Rattle.address_map.specs.declared.config.Config.{Config}
+use Rattle.std.proofs.Common.{◌≡◌, ap, subst, true, ◌∙◌}
 use Rattle.litmus_script.proofs.PlayLemmas.{all_shown}
-use Rattle.litmus_script.specs.Play.{PlaysAll}
-use Rattle.litmus_script.specs.Script.{Echoed, commands_of}
-use Rattle.script_explained.specs.Explains.{Explainingly, IsExplained}
+use Rattle.litmus_script.specs.Script.{Echoed}
+use Rattle.script_explained.proofs.StepLemmas.{played_from}
+use Rattle.script_explained.specs.Explains.{Explainingly}
 use Rattle.script_prompt.proofs.kinds.play_on.Goals as goal
+
+pub returns-clause-config : goal.returns-clause-config
+returns-clause-config g c =
+    c.in_ok-play.ensures.config ∙ ap (λ machine. machine.config) c.new-player.ensures.machine
+    ∙ c.in_ok-machine.ensures.config
 
 pub returns-clause-played : goal.returns-clause-played
 returns-clause-played g c =
-    let contents = g.W.Write.contents in
     let config = c.args.config in
     let machine = c.in_ok-machine.machine in
-    let slices = machine.slices.items in
-    let end = c.play.new.player.player.machine.slices.items in
-    let is = c.in_ok-machine.ensures.config in
-    let played = all_shown (λ m. m.player.machine.slices.items) (λ m. m.player.machine.config ≡ config) _
-    (Echoed true Explainingly config)
-    (λ old new line command before after same made. (
-      made.2.0 ∙ same,
-      (
-        made.0,
-        made.1,
-        subst (λ k. IsExplained k command old.player.machine.slices.items new.player.machine.slices.items
-            made.0 after) same made.2.1,
-      ),
-    ))
-    machine.config _ _ _ _ _ is c.in_ok-play.ensures.played in
+    let new = c.new-player.ensures.machine in
+    let is = ap (λ machine. machine.config) new ∙ c.in_ok-machine.ensures.config in
     record {
-      start = slices;
+      start = machine.slices.items;
       fresh = c.in_ok-machine.ensures.new;
-      played = subst (λ (k : Config). PlaysAll (Echoed true Explainingly config) k
-          (commands_of c.args.commands) slices end
-          (contents c.args.out.now) (contents c.play.new.out)) is played;
+      played = played_from _ _ _ _ _ _ _ _ _ is (ap (λ machine. machine.slices.items) new)
+          (all_shown (λ m. m.player.machine.slices.items) (λ m. m.player.machine.config ≡ config) _
+          (Echoed true Explainingly config)
+          (λ old new line command before after same made. (
+            made.2.0 ∙ same,
+            (
+              made.0,
+              made.1,
+              subst (λ k. Explainingly k old.player.machine.slices.items line command made.0 after
+                  new.player.machine.slices.items) same made.2.2,
+            ),
+          ))
+          _ _ _ _ _ _ is c.in_ok-play.ensures.played);
     }

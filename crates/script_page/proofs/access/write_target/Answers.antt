@@ -1,4 +1,0 @@
-use Rattle.script_page.proofs.access.write_target.Goals as goal
-
-pub returns : goal.returns
-returns g c = c.write.ensures.writes

@@ -1,0 +1,4 @@
+use Rattle.slice_json.proofs.access.write_entry.Goals as goal
+
+pub returns : goal.returns
+returns g c = c.write.ensures.writes

@@ -23,7 +23,7 @@ from harness.generator import Generator
 from harness.processes import program
 
 SCRIPTS = [["script"], ["script", "--explain"], ["script", "--json"], ["script", "--beside"], ["page"],
-           ["page", "--branches", "2"], ["page", "--guess"], ["chart"], ["chart", "--svg"], ["script", "--vcd"], ["check"]]
+           ["page", "--guess"], ["chart"], ["chart", "--svg"], ["script", "--vcd"], ["check"]]
 ROWS = ["--set", "ways=1,2", "--set", "policy=lru,random 7", "--seeds", "1..3"]
 
 

@@ -83,33 +83,6 @@ def test_in_a_browser() -> None:
         same(key, value, read[key])
 
 
-BRANCH = READERS + """
-<script>
-const read = {};
-const learnt = () => all('#question button')[1].click();
-learnt();
-document.querySelector('#could .choice').click();
-read.asked = [now, at('question').firstChild.textContent, at('branch').hidden];
-learnt();
-read.shown = [now, texts('#now .command')[0]];
-document.body.dispatchEvent(new KeyboardEvent('keydown', { key: 'Escape', bubbles: true }));
-show(9);
-read.run = [now, at('question').firstChild.textContent];
-tell(read);
-</script>
-"""
-
-
-@seconds(5)
-def test_in_a_branch() -> None:
-    """What a branch answers is asked for too, and who knows it doesn't know the run's own answer."""
-    script = "issue 0 0 add 0 5\ndeliver req 0 0\n"
-    read = read_in_a_browser(script, BRANCH, options=("--guess", "--branches", "1"))
-    same("a branch", [1, "What does deliver req 0 0 answer?", False], read["asked"])
-    same("its answer", [2, "deliver req 0 0"], read["shown"])
-    same("the run", [1, "What does deliver req 0 0 answer?"], read["run"])
-
-
 def test_the_value() -> None:
     """The page has the same value, and code of its own, which a plain page hasn't."""
     plain, guessed = (lockup("page", *options, "-", text=SCRIPT).out for options in ((), ("--guess",)))

@@ -108,9 +108,8 @@ def test_script(name: str) -> None:
 def test_page(name: str) -> None:
     """The value in a page, also where a line can't be taken."""
     for text in (read(EXAMPLES / f"{name}.txt"), read(EXAMPLES / f"{name}.txt") + "pump 99\nword\n"):
-        for words in ((), ("--branches", "2")):
-            page = lockup("page", *words, "-", text=text).out
-            fits(json.loads(re.search(r'id="run">\n(.*?)</script>', page, re.S).group(1)), schema("page"))
+        page = lockup("page", "-", text=text).out
+        fits(json.loads(re.search(r'id="run">\n(.*?)</script>', page, re.S).group(1)), schema("page"))
 
 
 def test_script_with_a_fault() -> None:

@@ -355,11 +355,13 @@ def test_an_invalid_line() -> None:
     same("the page of a script with an invalid line", wanted, told)
 
 
-def check_without_memory(script: str, *options: str) -> None:
+@seconds(20)
+def test_without_memory() -> None:
     """Has one allocation after another refused: the steps before it stand there, and the error."""
+    script = "issue 0 0 add 0 5\npump 9\nhand 0 0\n"
     is_plain()
     wanted = None
-    for refused, ran in each_refused([program(), "page", *options, "-"], script):
+    for refused, ran in each_refused([program(), "page", "-"], script):
         if ran.status == 0:
             wanted = wanted or ran.out
             same(f"the page with allocation {refused} refused", wanted, ran.out)
@@ -370,11 +372,6 @@ def check_without_memory(script: str, *options: str) -> None:
             same(f"the error with allocation {refused} refused", "no memory", run["fault"])
             whole, steps = steps_of(json.loads(value_of(wanted))), steps_of(run)
             same(f"steps with allocation {refused} refused", whole[:len(steps)], steps)
-
-
-@seconds(20)
-def test_without_memory() -> None:
-    check_without_memory("issue 0 0 add 0 5\npump 9\nhand 0 0\n")
 
 
 def opened(file: str, room: str, *more: str) -> str:

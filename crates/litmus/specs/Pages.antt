@@ -1,5 +1,5 @@
 -- The page of a script that is printed.
-use Rattle.std.specs.Prelude.{ℕ, List, Option, Some}
+use Rattle.std.specs.Prelude.{ℕ, false, List, Option, Some}
 use Rattle.std.specs.Str.Lines.{lines}
 use Rattle.litmus_text.specs.Statement.{statements_from}
 use Rattle.litmus_text.specs.declared.fault.TextFault.{TextFault}
@@ -7,7 +7,7 @@ use Rattle.script_page.specs.Page.{IsPage, IsPageFault}
 
 -- The script's page is written. As a record it isn't unfolded, with all of the page's text, where it is handed on.
 pub record HasPage (script : List ℕ) (before after : Option (List ℕ)) : Type 0 where
-  pub is : IsPage script (statements_from 0 (lines script)) before after
+  pub is : IsPage false script (statements_from 0 (lines script)) before after
 
 -- .. or not whole
 pub record HasPageFault (script : List ℕ) (fault : TextFault) : Type 0 where

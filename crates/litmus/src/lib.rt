@@ -4,8 +4,7 @@
 //! - [`run_script`] runs a script, [`run_explained`] tells what happened behind each answer, [`run_beside`] prints each
 //!   answer beside its command, and [`run_json`] each command as a value of JSON. [`run_chart`] draws the run as a
 //!   sequence diagram, [`run_svg`] one line of it over time (of those that the machine has, [`line_count`]),
-//!   [`run_page`] writes it as a page for a browser, which with [`run_page_with`] can be played, and [`run_waves`] as
-//!   waves for a wave viewer.
+//!   [`run_page`] writes it as a page for a browser, and [`run_waves`] as waves for a wave viewer.
 //! - [`run_trace`] writes a model checker's trace as a script.
 //! - [`run_prompt`] answers a script's lines one by one, and gives a [`Saver`] the script so far.
 //! - [`run_test`] tests a script against the answers that it wants.
@@ -47,7 +46,7 @@ pub use program_sweep::{
 pub use script_beside::run_beside;
 pub use script_explained::run_explained;
 pub use script_json::run_json;
-pub use script_page::{PageExtras, run_page, run_page_with};
+pub use script_page::run_page;
 pub use script_prompt::{Saver, run_prompt};
 pub use script_test::run_test;
 pub use script_waves::run_waves;

@@ -77,7 +77,7 @@ fn page_of<W: Write>(alloc: Global, script: &[u8], status: u8, out: &mut W) -> R
     ensures page { IfOk result (λ s. (s ≡ status) × HasPage script.now (W.contents out.old) (W.contents out.new)) }
     ensures fault { IfErr result (HasPageFault script.now) }
 {
-    match run_page(alloc, script, out) {
+    match run_page(alloc, script, false, out) {
         Ok(_) => Ok(status),
         Err(fault) => Err(fault),
     }

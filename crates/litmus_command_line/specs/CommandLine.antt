@@ -66,14 +66,9 @@ abbrev pub chart_app : App
 chart_app =
     with_rules (new_app (codes "chart")) (file_rule ∷ flag_rule (codes "svg") ∷ number_rule (codes "line") ∷ [])
 
--- .. from 1 to 4
-abbrev pub depth_rule : Text → Rule
-depth_rule name = record (number_rule name) { parser = Some (value_parsers.Unsigned 1 4) }
-
 -- the subcommand that writes it as a page
 abbrev pub page_app : App
-page_app =
-    with_rules (new_app (codes "page")) (file_rule ∷ depth_rule (codes "branches") ∷ flag_rule (codes "guess") ∷ [])
+page_app = with_rules (new_app (codes "page")) (file_rule ∷ flag_rule (codes "guess") ∷ [])
 
 -- an option `--name` that takes a number from 1 on
 abbrev pub positive_rule : Text → Rule
@@ -314,9 +309,8 @@ IsLine name rows (command_lines.Try file) =
 IsLine name rows (command_lines.Chart file svg line) =
     (name ≡ codes "chart") × (first_of (codes "FILE") rows ≡ Some file.now)
     × (svg ≡ is_given (codes "svg") rows) × IsNumberIfGiven (codes "line") rows line
-IsLine name rows (command_lines.Page file branches guess) =
-    (name ≡ codes "page") × (first_of (codes "FILE") rows ≡ Some file.now)
-    × IsNumberIfGiven (codes "branches") rows branches × (guess ≡ is_given (codes "guess") rows)
+IsLine name rows (command_lines.Page file guess) =
+    (name ≡ codes "page") × (first_of (codes "FILE") rows ≡ Some file.now) × (guess ≡ is_given (codes "guess") rows)
 IsLine name rows (command_lines.Litmus file seed limit json explain) =
     (name ≡ codes "litmus") × (first_of (codes "FILE") rows ≡ Some file.now)
     × IsNumberOf (codes "seed") rows seed × IsNumberOf (codes "limit") rows limit

@@ -32,11 +32,10 @@ pub enum CommandLine<'a> {
         svg: bool,
         line: Option<u64>,
     },
-    /// Write the run of the script in this file as a page for a browser: with branches, so many deliveries deep, if a
-    /// number is given, and with `guess` so that answers are asked for before they are shown.
+    /// Write the run of the script in this file as a page for a browser: with `guess` so that answers are asked for
+    /// before they are shown.
     Page {
         file: &'a str,
-        branches: Option<u64>,
         guess: bool,
     },
     /// Run the litmus test in this file over threads. The seed is that of the cores' extra turns, and no run takes more
@@ -239,13 +238,8 @@ fn page_line<'a>(given: &ArgMatches<'a>) -> Option<CommandLine<'a>>
     ensures { IfSome result (IsLine (codes "page") (rows_of (found_of given.now))) }
 {
     let file = file_of(given)?;
-    let branches = number_if_given(given, "branches")?;
     let guess = is_given(given, "guess");
-    Some(CommandLine::Page {
-        file,
-        branches,
-        guess,
-    })
+    Some(CommandLine::Page { file, guess })
 }
 
 fn litmus_line<'a>(given: &ArgMatches<'a>) -> Option<CommandLine<'a>>

@@ -15,7 +15,6 @@ ghost use Rattle.litmus_command_line.specs.CommandLine.{
   chart_app,
   check_app,
   cores_rule,
-  depth_rule,
   few_rule,
   file_rule,
   flag_rule,
@@ -253,14 +252,6 @@ fn page<'a>(alloc: Global) -> Result<Command<'a>, AllocError>
     let command = and(
         command,
         file(alloc, "The script: one command a line; - is standard input"),
-    );
-    let command = and(
-        command,
-        depth(
-            alloc,
-            "branches",
-            "Give at each step what each delivery leads to, N deliveries deep",
-        ),
     );
     and(
         command,
@@ -634,13 +625,6 @@ fn few<'a>(alloc: Global, name: &'a str, help: &'a str) -> Arg<'a>
     ensures { HasRule (few_rule name.entry.now) result }
 {
     number(alloc, name, help).value_parser(ValueParser::unsigned(1, 64))
-}
-
-/// An option with a number from 1 to 4.
-fn depth<'a>(alloc: Global, name: &'a str, help: &'a str) -> Arg<'a>
-    ensures { HasRule (depth_rule name.entry.now) result }
-{
-    number(alloc, name, help).value_parser(ValueParser::unsigned(1, 4))
 }
 
 /// An option with a number, which is this one where none is given.

@@ -10,11 +10,11 @@ use clap::Error;
 use clap::error::ErrorKind;
 use head::head_of;
 use litmus::{
-    CommandLine, Form, OutcomeForm, PageExtras, ScriptForm, Seeds, Size, SweepFault, TextKind,
-    hint, line_count, page_schedule, page_walk, read_line, run_beside, run_chart, run_check,
+    CommandLine, Form, OutcomeForm, ScriptForm, Seeds, Size, SweepFault, TextKind, hint,
+    line_count, page_schedule, page_walk, read_line, run_beside, run_chart, run_check,
     run_check_explained, run_check_json, run_explained, run_export, run_json, run_litmus_as,
-    run_page_with, run_programs, run_script, run_svg, run_table, run_table_rows, run_test,
-    run_trace, run_walk, run_waves, write_schedule, write_walk,
+    run_page, run_programs, run_script, run_svg, run_table, run_table_rows, run_test, run_trace,
+    run_walk, run_waves, write_schedule, write_walk,
 };
 use litmus_text::TextFault;
 use painted::Painted;
@@ -367,11 +367,7 @@ where
             ..
         } => run_chart(alloc, input, out),
         CommandLine::Chart { line, .. } => write_picture(alloc, input, line, out),
-        CommandLine::Page {
-            branches,
-            guess,
-            ..
-        } => run_page_with(alloc, input, extras_of(branches, guess), out),
+        CommandLine::Page { guess, .. } => run_page(alloc, input, guess, out),
         CommandLine::Test { first, .. } => run_test(alloc, input, first, out),
         CommandLine::Litmus {
             seed,
@@ -466,14 +462,6 @@ fn write_picture<W: Write>(
         }
     }
     run_svg(alloc, input, line, out)
-}
-
-/// What a page has besides the run.
-fn extras_of(branches: Option<u64>, guess: bool) -> PageExtras {
-    PageExtras {
-        depth: branches.unwrap_or(0),
-        guess,
-    }
 }
 
 /// What a long run counts on its way.

@@ -1,7 +1,5 @@
-mod BranchLemmas
 mod Commas
 mod LineLemmas
-mod PumpLemmas
 mod RestCalls
 mod RestLemmas
 mod RestSteps

@@ -1,5 +1,4 @@
 pub mod Access
-pub mod Branch
 pub mod Call
 pub mod Copy
 pub mod Core

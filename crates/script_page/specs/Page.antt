@@ -1,5 +1,5 @@
 -- A page: what a browser needs, and in it the run of a script as one value of JSON.
-use Rattle.std.specs.Prelude.{◌≡◌, ◌⊎◌, ℕ, nat_lt, Bool, true, false, List, [], ◌++◌, codes, Option}
+use Rattle.std.specs.Prelude.{◌≡◌, ◌⊎◌, ℕ, Bool, true, false, List, [], ◌++◌, codes, Option}
 use Rattle.std.specs.Io.KnownBytes.{Appends}
 use Rattle.address_map.specs.declared.config.Config.{Config}
 use Rattle.litmus_script.specs.Machine.{IsNewMachine}
@@ -11,9 +11,7 @@ use Rattle.protocol_tables.specs.Cache.{table_of as cache_table}
 use Rattle.protocol_tables.specs.Directory.{table_of as directory_table}
 use Rattle.script_page.specs.Json.{json_of}
 use Rattle.script_page.specs.Steps.{Steps}
-use Rattle.script_page.specs.declared.extras.PageExtras.{PageExtras}
 use Rattle.script_page.specs.declared.frame.arrows.TheConstants.{ARROWS}
-use Rattle.script_page.specs.declared.frame.branches.TheConstants.{BRANCHES}
 use Rattle.script_page.specs.declared.frame.controls.TheConstants.{STORY, TAIL}
 use Rattle.script_page.specs.declared.frame.diagram.TheConstants.{DIAGRAM}
 use Rattle.script_page.specs.declared.frame.focus.TheConstants.{FOCUS}
@@ -40,72 +38,55 @@ abbrev pub code_if : Bool → List ℕ → List ℕ
 code_if true code = code
 code_if false code = []
 
--- what a page has besides the run: how deep the branches of each step are, and whether answers are to be guessed
-abbrev pub code_of_extras : PageExtras → List ℕ
-code_of_extras extras = code_if (nat_lt 0 extras.depth) BRANCHES.now ++ code_if extras.guess GUESS.now
-
 -- the code of the diagram
 unfoldable pub code_of_diagram : List ℕ
 code_of_diagram =
     PLACE.now ++ (LABELS.now ++ (LANES.now ++ (ARROWS.now ++ (MARKS.now ++ (DIAGRAM.now ++ LEGEND.now)))))
 
--- the code of the page
-unfoldable pub code_of_page : PageExtras → List ℕ
-code_of_page extras =
-    RUN.now ++ (TIME.now ++ (code_of_diagram ++ (FOCUS.now ++ (STORY.now ++ (code_of_extras extras ++ TAIL.now)))))
+-- the code of the page, whose answers may have to be guessed
+unfoldable pub code_of_page : Bool → List ℕ
+code_of_page guess =
+    RUN.now ++ (TIME.now ++ (code_of_diagram ++ (FOCUS.now ++ (STORY.now ++ (code_if guess GUESS.now ++ TAIL.now)))))
 
 -- .. and what stands behind the steps
-abbrev pub text_of_end : PageExtras → List ℕ
-text_of_end extras = codes "null]}\n" ++ code_of_page extras
+abbrev pub text_of_end : Bool → List ℕ
+text_of_end guess = codes "null]}\n" ++ code_of_page guess
 
 -- The commands are played from these slices on, and the steps of each are written.
-pub record HasSteps (extras : PageExtras) (config : Config) (commands : List (ℕ × List (List ℕ)))
+pub record HasSteps (guess : Bool) (config : Config) (commands : List (ℕ × List (List ℕ)))
     (start : List PartsView) (before after : Option (List ℕ)) : Type 0 where
   pub end : List PartsView
   pub last : Option (List ℕ)
-  pub played : PlaysAll (Steps extras.depth config) config commands start end before last
-  pub ended : Appends last after (text_of_end extras)
+  pub played : PlaysAll (Steps config) config commands start end before last
+  pub ended : Appends last after (text_of_end guess)
 
 -- .. on a new machine
-pub record IsPageOf (extras : PageExtras) (script : List ℕ) (config : Config) (bound : Bound)
+pub record IsPageOf (guess : Bool) (script : List ℕ) (config : Config) (bound : Bound)
     (commands : List (ℕ × List (List ℕ))) (before after : Option (List ℕ)) : Type 0 where
   pub start : List PartsView
   pub fresh : IsNewMachine config bound start
   pub first : Option (List ℕ)
   pub begun : Appends before first (text_of_begin script)
-  pub steps : HasSteps extras config commands start first after
+  pub steps : HasSteps guess config commands start first after
 
--- A script's page with these extras. That of a script that says nothing has no steps.
-abbrev pub IsPageWith : PageExtras → List ℕ → List (ℕ × List (List ℕ)) → Option (List ℕ) → Option (List ℕ) → Type 0
-IsPageWith extras script all before after =
+-- A script's page. That of a script that says nothing has no steps.
+abbrev pub IsPage : Bool → List ℕ → List (ℕ × List (List ℕ)) → Option (List ℕ) → Option (List ℕ) → Type 0
+IsPage guess script all before after =
     ((all ≡ []) × (first : Option (List ℕ)) × Appends before first (text_of_begin script)
-    × Appends first after (text_of_end extras))
+    × Appends first after (text_of_end guess))
     ⊎ ((config : Config) × (bound : Bound) × (commands : List (ℕ × List (List ℕ)))
-    × IsSetUp all config bound commands × IsPageOf extras script config bound commands before after)
-
--- the run alone
-abbrev pub no_extras : PageExtras
-no_extras = record { depth = 0; guess = false }
-
--- A script's page.
-abbrev pub IsPage : List ℕ → List (ℕ × List (List ℕ)) → Option (List ℕ) → Option (List ℕ) → Type 0
-IsPage script all before after = IsPageWith no_extras script all before after
+    × IsSetUp all config bound commands × IsPageOf guess script config bound commands before after)
 
 -- the commands are played up to one that can't be, from these slices on
-pub record PageStopsAt (depth : ℕ) (config : Config) (commands : List (ℕ × List (List ℕ))) (start : List PartsView)
+pub record PageStopsAt (config : Config) (commands : List (ℕ × List (List ℕ))) (start : List PartsView)
     (fault : TextFault) : Type 0 where
   pub first : Option (List ℕ)
   pub last : Option (List ℕ)
-  pub stopped : PlaysUpTo (Steps depth config) config commands start first last fault
+  pub stopped : PlaysUpTo (Steps config) config commands start first last fault
 
--- why a page whose branches are so deep has not all of its script: as in scripts, or it couldn't be written
-abbrev pub IsFaultAtDepth : ℕ → List (ℕ × List (List ℕ)) → TextFault → Type 0
-IsFaultAtDepth depth all fault =
+-- why a page has not all of its script: as in scripts, or it couldn't be written
+abbrev pub IsPageFault : List (ℕ × List (List ℕ)) → TextFault → Type 0
+IsPageFault all fault =
     IsNotConfigured all fault ⊎ IsOfRun fault
     ⊎ ((config : Config) × (bound : Bound) × (commands : List (ℕ × List (List ℕ))) × (start : List PartsView)
-    × IsSetUp all config bound commands × IsNewMachine config bound start
-    × PageStopsAt depth config commands start fault)
-
--- .. of a page without any
-abbrev pub IsPageFault : List (ℕ × List (List ℕ)) → TextFault → Type 0
-IsPageFault all fault = IsFaultAtDepth 0 all fault
+    × IsSetUp all config bound commands × IsNewMachine config bound start × PageStopsAt config commands start fault)

@@ -86,7 +86,7 @@ abbrev pub text_of_changes : Option Scope → ℕ → List PartsView → List �
 text_of_changes None first slices = no_changes
 text_of_changes (Some scope) first slices = lines_in scope first (slice_get slices scope.slice)
 
--- the data of a step but what the core has
+-- all of a step but what the core has
 abbrev pub text_of_front : ℕ → List ℕ → List ℕ → Command → Before → Option Scope → List PartsView → List ℕ
 text_of_front number line answer command before scope slices =
     text_of_begin number ++ (json_of line ++ (codes ",\"answer\":" ++ (json_of answer
@@ -101,31 +101,13 @@ abbrev pub text_of_core_by : Option Scope → List PartsView → List ℕ
 text_of_core_by None slices = codes "null"
 text_of_core_by (Some scope) slices = core_in scope (slice_get slices scope.slice)
 
--- What stands of a step before its branches: the command at this place of the script with its answer and what was seen of
--- it before, and what it can have changed, as the slices have it.
-pub record WritesData (config : Config) (number : ℕ) (line answer : List ℕ) (command : Command) (seen : Before)
+-- A step is written: the command at this place of the script with its answer and what was seen of it before, and what
+-- it can have changed, as the slices have it.
+pub record WritesStep (config : Config) (number : ℕ) (line answer : List ℕ) (command : Command) (seen : Before)
     (slices : List PartsView) (before after : Option (List ℕ)) : Type 0 where
   pub first : Option (List ℕ)
   pub begun : Appends before first
       (text_of_front number line answer command seen (scope_of config command) slices)
-  pub core : Appends first after (text_of_core_by (scope_of config command) slices)
-
--- A step is written: its data, behind them this text, and its end.
-pub record WritesWith (config : Config) (number : ℕ) (line answer : List ℕ) (command : Command) (seen : Before)
-    (slices : List PartsView) (text : List ℕ) (before after : Option (List ℕ)) : Type 0 where
-  pub middle : Option (List ℕ)
-  pub given : WritesData config number line answer command seen slices before middle
   pub last : Option (List ℕ)
-  pub more : Appends middle last text
+  pub core : Appends first last (text_of_core_by (scope_of config command) slices)
   pub ended : Appends last after (codes "},\n")
-
--- the text behind the data of a step at this place of the script, after which the slices are these
-abbrev pub Behind : Type 1
-Behind = Config → ℕ → List PartsView → List ℕ → Type 0
-
--- A step is written, and behind its data such a text.
-pub record WritesStep (behind : Behind) (config : Config) (number : ℕ) (line answer : List ℕ) (command : Command)
-    (seen : Before) (slices : List PartsView) (before after : Option (List ℕ)) : Type 0 where
-  pub text : List ℕ
-  pub is : behind config number slices text
-  pub written : WritesWith config number line answer command seen slices text before after

@@ -1,7 +1,6 @@
 //! The page's own code: what a browser shows, and how. It takes what it shows from the texts of the steps alone.
 
 pub mod arrows;
-pub mod branches;
 pub mod controls;
 pub mod diagram;
 pub mod focus;

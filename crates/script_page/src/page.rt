@@ -9,15 +9,12 @@ ghost use Rattle.litmus_script.specs.Script.{commands_of};
 ghost use Rattle.litmus_text.specs.Statement.{statements_from};
 ghost use Rattle.protocol_tables.specs.Cache.{table_of as cache_table};
 ghost use Rattle.protocol_tables.specs.Directory.{table_of as directory_table};
-ghost use Rattle.script_page.specs.Page.{HasSteps, IsFaultAtDepth, IsPage, IsPageFault, IsPageOf, IsPageWith};
-ghost use Rattle.script_page.specs.Page.{PageStopsAt, code_if, code_of_diagram, code_of_extras, code_of_page};
-ghost use Rattle.script_page.specs.Page.{text_of_begin, text_of_end};
+ghost use Rattle.script_page.specs.Page.{HasSteps, IsPage, IsPageFault, IsPageOf, PageStopsAt, code_if};
+ghost use Rattle.script_page.specs.Page.{code_of_diagram, code_of_page, text_of_begin, text_of_end};
 ghost use Rattle.slice_core_plan.specs.Calls.{PartsView};
 
 use super::core_part::write_whole;
-use super::extras::PageExtras;
 use super::frame::arrows::ARROWS;
-use super::frame::branches::BRANCHES;
 use super::frame::controls::{STORY, TAIL};
 use super::frame::diagram::DIAGRAM;
 use super::frame::focus::FOCUS;
@@ -41,36 +38,22 @@ use std::alloc::Global;
 use std::fmt;
 use std::io::Write;
 
-/// Writes a script's run as a page for a browser: a step for each command. Returns the exit status. A line that can't
-/// be taken ends the steps, and the page tells it too.
-pub fn run_page<W: Write>(alloc: Global, input: &[u8], out: &mut W) -> Result<u8, TextFault>
-    ensures status { IfOk result (λ status. status ≡ 0) }
-    ensures printed { OnOk result (IsPage input.now (statements_from 0 (lines input.now))
-        (W.contents out.old) (W.contents out.new)) }
-    ensures fault { IfErr result (IsPageFault (statements_from 0 (lines input.now))) }
-{
-    let extras = PageExtras {
-        depth: 0,
-        guess: false,
-    };
-    run_page_with(alloc, input, extras, out)
-}
-
-/// The same with what a page may have besides the run.
-pub fn run_page_with<W: Write>(
+/// Writes a script's run as a page for a browser: a step for each command. With `guess` the page asks for each answer
+/// before it shows it. Returns the exit status. A line that can't be taken ends the steps, and the page tells it too.
+pub fn run_page<W: Write>(
     alloc: Global,
     input: &[u8],
-    extras: PageExtras,
+    guess: bool,
     out: &mut W,
 ) -> Result<u8, TextFault>
     ensures status { IfOk result (λ status. status ≡ 0) }
-    ensures printed { OnOk result (IsPageWith extras input.now (statements_from 0 (lines input.now))
+    ensures printed { OnOk result (IsPage guess input.now (statements_from 0 (lines input.now))
         (W.contents out.old) (W.contents out.new)) }
-    ensures fault { IfErr result (IsFaultAtDepth extras.depth (statements_from 0 (lines input.now))) }
+    ensures fault { IfErr result (IsPageFault (statements_from 0 (lines input.now))) }
 {
     match Script::read(alloc, input)? {
-        Some(script) => page_of(alloc, input, script, extras, out)?,
-        None => page_of_nothing(alloc, input, extras, out)?,
+        Some(script) => page_of(alloc, input, script, guess, out)?,
+        None => page_of_nothing(alloc, input, guess, out)?,
     }
     Ok(0)
 }
@@ -78,29 +61,29 @@ pub fn run_page_with<W: Write>(
 fn page_of_nothing<W: Write>(
     alloc: Global,
     input: &[u8],
-    extras: PageExtras,
+    guess: bool,
     out: &mut W,
 ) -> Result<(), TextFault>
-    ensures written { OnOk result (IsPageWith extras input.now [] (W.contents out.old) (W.contents out.new)) }
+    ensures written { OnOk result (IsPage guess input.now [] (W.contents out.old) (W.contents out.new)) }
     ensures fault { IfErr result IsOfRun }
 {
     begin(alloc, input, out)?;
-    end(extras, out)
+    end(guess, out)
 }
 
 fn page_of<W: Write>(
     alloc: Global,
     input: &[u8],
     script: Script<'_>,
-    extras: PageExtras,
+    guess: bool,
     out: &mut W,
 ) -> Result<(), TextFault>
-    ensures page { OnOk result (IsPageOf extras input.now script.entry.config
+    ensures page { OnOk result (IsPageOf guess input.now script.entry.config
         (bound_of script.entry.misses script.entry.config)
         (commands_of script.entry.commands) (W.contents out.old) (W.contents out.new)) }
     ensures fault { IfErr result (λ fault. IsOfRun fault ⊎ ((start : List PartsView)
         × IsNewMachine script.entry.config (bound_of script.entry.misses script.entry.config) start
-        × PageStopsAt extras.depth script.entry.config (commands_of script.entry.commands) start fault)) }
+        × PageStopsAt script.entry.config (commands_of script.entry.commands) start fault)) }
 {
     let Script {
         config,
@@ -109,10 +92,10 @@ fn page_of<W: Write>(
     } = script;
     match misses {
         MissKind::Explicit => {
-            page_on::<ExplicitFile, W>(alloc, input, config, commands, extras, out)
+            page_on::<ExplicitFile, W>(alloc, input, config, commands, guess, out)
         }
         MissKind::Inverted => {
-            page_on::<InvertedFile, W>(alloc, input, config, commands, extras, out)
+            page_on::<InvertedFile, W>(alloc, input, config, commands, guess, out)
         }
     }
 }
@@ -123,18 +106,18 @@ fn page_on<F: MissFile, W: Write>(
     input: &[u8],
     config: Checked,
     commands: Commands<'_>,
-    extras: PageExtras,
+    guess: bool,
     out: &mut W,
 ) -> Result<(), TextFault>
-    ensures page { OnOk result (IsPageOf extras input.now config (F.bound_by config) (commands_of commands.entry)
+    ensures page { OnOk result (IsPageOf guess input.now config (F.bound_by config) (commands_of commands.entry)
         (W.contents out.old) (W.contents out.new)) }
     ensures fault { IfErr result (λ fault. IsOfRun fault ⊎ ((start : List PartsView)
         × IsNewMachine config (F.bound_by config) start
-        × PageStopsAt extras.depth config (commands_of commands.entry) start fault)) }
+        × PageStopsAt config (commands_of commands.entry) start fault)) }
 {
     let machine: Machine<F> = Machine::build(alloc, config)?;
     begin(alloc, input, out)?;
-    steps(alloc, machine, commands, extras, out)
+    steps(alloc, machine, commands, guess, out)
 }
 
 /// The steps, and what stands behind them.
@@ -142,20 +125,20 @@ fn steps<F: MissFile, W: Write>(
     alloc: Global,
     machine: Machine<F>,
     commands: Commands<'_>,
-    extras: PageExtras,
+    guess: bool,
     out: &mut W,
 ) -> Result<(), TextFault>
-    ensures steps { OnOk result (HasSteps extras machine.config (commands_of commands.entry) machine.slices.items
+    ensures steps { OnOk result (HasSteps guess machine.config (commands_of commands.entry) machine.slices.items
         (W.contents out.old) (W.contents out.new)) }
     ensures fault { IfErr result (λ fault. IsOfRun fault
-        ⊎ PageStopsAt extras.depth machine.config (commands_of commands.entry) machine.slices.items fault) }
+        ⊎ PageStopsAt machine.config (commands_of commands.entry) machine.slices.items fault) }
 {
-    let mut player = Paged::new(alloc, machine, extras.depth);
+    let mut player = Paged::new(alloc, machine);
     match commands.play(&mut player, out) {
-        Ok(()) => end(extras, out),
+        Ok(()) => end(guess, out),
         Err(fault) => {
             // where this can't be written either, there is nobody left to tell
-            let _ = end_at(&fault, extras, &mut TextWriter { out });
+            let _ = end_at(&fault, guess, &mut TextWriter { out });
             Err(fault)
         }
     }
@@ -232,31 +215,31 @@ fn print_directory_table<W: Write>(out: &mut W) -> fmt::Result
 }
 
 /// Writes what stands behind the steps.
-fn end<W: Write>(extras: PageExtras, out: &mut W) -> Result<(), TextFault>
-    ensures ended { OnOk result (Appends (W.contents out.old) (W.contents out.new) (text_of_end extras)) }
+fn end<W: Write>(guess: bool, out: &mut W) -> Result<(), TextFault>
+    ensures ended { OnOk result (Appends (W.contents out.old) (W.contents out.new) (text_of_end guess)) }
     ensures fault { IfErr result IsOfRun }
 {
     let mut answers = TextWriter { out };
-    written(write_end(extras, &mut answers))
+    written(write_end(guess, &mut answers))
 }
 
-fn write_end<W: fmt::Write>(extras: PageExtras, out: &mut W) -> fmt::Result
-    ensures { OnOk result (WritesInCalls W.write_str_gives out.old (text_of_end extras) out.new) }
+fn write_end<W: fmt::Write>(guess: bool, out: &mut W) -> fmt::Result
+    ensures { OnOk result (WritesInCalls W.write_str_gives out.old (text_of_end guess) out.new) }
 {
     out.write_str("null]}\n")?;
-    write_code(extras, out)
+    write_code(guess, out)
 }
 
 /// Writes the page's code.
-fn write_code<W: fmt::Write>(extras: PageExtras, out: &mut W) -> fmt::Result
-    ensures { OnOk result (WritesInCalls W.write_str_gives out.old (code_of_page extras) out.new) }
+fn write_code<W: fmt::Write>(guess: bool, out: &mut W) -> fmt::Result
+    ensures { OnOk result (WritesInCalls W.write_str_gives out.old (code_of_page guess) out.new) }
 {
     out.write_str(RUN)?;
     out.write_str(TIME)?;
     write_diagram(out)?;
     out.write_str(FOCUS)?;
     out.write_str(STORY)?;
-    write_extras(extras, out)?;
+    write_if(guess, GUESS, out)?;
     out.write_str(TAIL)
 }
 
@@ -273,14 +256,7 @@ fn write_diagram<W: fmt::Write>(out: &mut W) -> fmt::Result
     out.write_str(LEGEND)
 }
 
-/// Writes the code of what a page has besides the run.
-fn write_extras<W: fmt::Write>(extras: PageExtras, out: &mut W) -> fmt::Result
-    ensures { OnOk result (WritesInCalls W.write_str_gives out.old (code_of_extras extras) out.new) }
-{
-    write_if(extras.depth > 0, BRANCHES, out)?;
-    write_if(extras.guess, GUESS, out)
-}
-
+/// Writes code that a page has only where it is asked for.
 fn write_if<W: fmt::Write>(is_wanted: bool, code: &str, out: &mut W) -> fmt::Result
     ensures { OnOk result (WritesInCalls W.write_str_gives out.old (code_if is_wanted code.now) out.new) }
 {
@@ -291,7 +267,7 @@ fn write_if<W: fmt::Write>(is_wanted: bool, code: &str, out: &mut W) -> fmt::Res
 }
 
 /// .. where a line can't be taken.
-fn end_at<W: fmt::Write>(fault: &TextFault, extras: PageExtras, out: &mut W) -> fmt::Result {
+fn end_at<W: fmt::Write>(fault: &TextFault, guess: bool, out: &mut W) -> fmt::Result {
     writeln!(out, "null],\"fault\":\"{fault}\"}}")?;
-    write_code(extras, out)
+    write_code(guess, out)
 }

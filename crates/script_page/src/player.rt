@@ -7,8 +7,7 @@ ghost use Rattle.script_explained.specs.Explains.{TellsNext};
 ghost use Rattle.script_page.specs.Steps.{ArePumpSteps, IsStep, WritesSeen, next_in};
 
 use super::answer::{answer_of, pumped_text};
-use super::branch::write_step;
-use super::step::{Before, Step};
+use super::step::{Before, Step, write_step};
 use address_map::Checked;
 use litmus_script::{Deliverer, Machine, Player, pump_slices};
 use litmus_text::{Command, Statement, TextFault};
@@ -24,8 +23,6 @@ pub(crate) struct Paged<F: MissFile> {
     pub(crate) explained: Explained<F>,
     /// The place in the script of the command that is played.
     number: usize,
-    /// How deep the branches of each step go.
-    depth: u64,
 }
 
 impl<F: MissFile> Player for Paged<F> {
@@ -35,8 +32,7 @@ impl<F: MissFile> Player for Paged<F> {
     ghost config_of = { λ player. player.explained.machine.config };
 
     ghost plays = { λ old line command before after new. (new.explained.machine.config ≡ old.explained.machine.config)
-        × (new.depth ≡ old.depth)
-        × Steps old.depth old.explained.machine.config old.explained.machine.slices.items line command before after
+        × Steps old.explained.machine.config old.explained.machine.slices.items line command before after
         new.explained.machine.slices.items };
 
     fn config(&self) -> &Checked {
@@ -65,8 +61,8 @@ impl<F: MissFile> Deliverer for Paged<F> {
     ghost config_of = { λ player. player.explained.machine.config };
 
     ghost delivers = { λ old slice answer before after new. (new.explained.machine.config ≡ old.explained.machine.config)
-        × (new.number ≡ old.number) × (new.depth ≡ old.depth)
-        × IsNextStep old.depth old.explained.machine.config old.number old.explained.machine.slices.items slice answer
+        × (new.number ≡ old.number)
+        × IsNextStep old.explained.machine.config old.number old.explained.machine.slices.items slice answer
         before after new.explained.machine.slices.items };
 
     fn slices(&self) -> usize {
@@ -87,14 +83,12 @@ impl<F: MissFile> Deliverer for Paged<F> {
 }
 
 impl<F: MissFile> Paged<F> {
-    pub(crate) fn new(alloc: Global, machine: Machine<F>, depth: u64) -> Self
-        ensures machine { result.explained.machine ≡ machine }
-        ensures depth { result.depth ≡ depth }
+    pub(crate) fn new(alloc: Global, machine: Machine<F>) -> Self
+        ensures { result.explained.machine ≡ machine }
     {
         Paged {
             explained: Explained { machine, alloc },
             number: 0,
-            depth,
         }
     }
 
@@ -107,8 +101,7 @@ impl<F: MissFile> Paged<F> {
     ) -> Result<(), TextFault>
         requires { IsInRange self.old.explained.machine.config command }
         ensures config { self.new.explained.machine.config ≡ self.old.explained.machine.config }
-        ensures depth { self.new.depth ≡ self.old.depth }
-        ensures step { OnOk result (IsStep self.old.depth self.old.explained.machine.config statement.now.line.now
+        ensures step { OnOk result (IsStep self.old.explained.machine.config statement.now.line.now
             command self.old.explained.machine.slices.items self.new.explained.machine.slices.items
             (W.contents out.old) (W.contents out.new)) }
         ensures fault { IfErr result IsOfRun }
@@ -122,26 +115,18 @@ impl<F: MissFile> Paged<F> {
             command,
             before,
         };
-        write_step(
-            self.explained.alloc,
-            &self.explained.machine,
-            &step,
-            self.depth,
-            out,
-        )
+        write_step(self.explained.alloc, &self.explained.machine, &step, out)
     }
 
     /// Pumps: writes a step for each delivery, and then one that says what is left.
     fn pump<W: Write>(&mut self, line: &[u8], calls: u64, out: &mut W) -> Result<(), TextFault>
         ensures config { self.new.explained.machine.config ≡ self.old.explained.machine.config }
-        ensures steps { OnOk result ((self.new.depth ≡ self.old.depth)
-            × ArePumpSteps self.old.depth self.old.explained.machine.config line.now calls
+        ensures steps { OnOk result (ArePumpSteps self.old.explained.machine.config line.now calls
             self.old.explained.machine.slices.items self.new.explained.machine.slices.items
             (W.contents out.old) (W.contents out.new)) }
         ensures fault { IfErr result IsOfRun }
     {
         let number = self.number;
-        let depth = self.depth;
         let pumped = pump_slices(self, calls, out)?;
         let answer = pumped_text(self.explained.alloc, pumped)?;
         let command = Command::Pump(calls);
@@ -153,13 +138,7 @@ impl<F: MissFile> Paged<F> {
             command,
             before,
         };
-        write_step(
-            self.explained.alloc,
-            &self.explained.machine,
-            &step,
-            depth,
-            out,
-        )
+        write_step(self.explained.alloc, &self.explained.machine, &step, out)
     }
 
     /// What is seen of a slice's next delivery before it is made.
@@ -181,7 +160,6 @@ impl<F: MissFile> Paged<F> {
         requires empty { told.old.items ≡ [] }
         ensures config { self.new.explained.machine.config ≡ self.old.explained.machine.config }
         ensures number { self.new.number ≡ self.old.number }
-        ensures depth { self.new.depth ≡ self.old.depth }
         ensures told { IfOk result (λ answer. TellsNext self.old.explained.machine.slices.items slice answer
             (Some []) (Some told.new.items) self.new.explained.machine.slices.items) }
         ensures fault { IfErr result IsOfRun }
@@ -201,7 +179,7 @@ impl<F: MissFile> Paged<F> {
         told: &[u8],
         out: &mut W,
     ) -> Result<(), TextFault>
-        ensures written { OnOk result (WritesSeen self.now.depth self.now.explained.machine.config self.now.number
+        ensures written { OnOk result (WritesSeen self.now.explained.machine.config self.now.number
             delivered before told.now self.now.explained.machine.slices.items (W.contents out.old) (W.contents out.new)) }
         ensures fault { IfErr result IsOfRun }
     {
@@ -216,12 +194,6 @@ impl<F: MissFile> Paged<F> {
             command: Command::Deliver(pick),
             before,
         };
-        write_step(
-            self.explained.alloc,
-            &self.explained.machine,
-            &step,
-            self.depth,
-            out,
-        )
+        write_step(self.explained.alloc, &self.explained.machine, &step, out)
     }
 }

@@ -3,7 +3,7 @@ ghost use Rattle.std.specs.Prelude.{◌≡◌, IfErr, IfOk, OnOk, codes};
 ghost use Rattle.std.specs.Fmt.{WritesInCalls};
 ghost use Rattle.std.specs.Io.KnownBytes.{Appends};
 ghost use Rattle.litmus_script.specs.Play.{IsOfRun};
-ghost use Rattle.script_page.specs.Step.{WritesData, WritesWith, before_of, first_of, length_in, no_changes, planned_of, text_of_begin};
+ghost use Rattle.script_page.specs.Step.{WritesStep, before_of, first_of, length_in, no_changes, planned_of, text_of_begin};
 ghost use Rattle.script_page.specs.Step.{text_of_call, text_of_changes, text_of_core_by, text_of_front, text_of_lines};
 ghost use Rattle.script_page.specs.Step.{text_of_next};
 
@@ -61,7 +61,7 @@ fn length_in<F: MissFile>(machine: &Machine<F>, slice: usize) -> usize
 }
 
 /// What is planned for the message that a command delivers.
-pub(crate) fn planned_of<F: MissFile>(machine: &Machine<F>, command: Command) -> Option<Planned>
+fn planned_of<F: MissFile>(machine: &Machine<F>, command: Command) -> Option<Planned>
     ensures { result ≡ planned_of machine.now.config command machine.now.slices.items }
 {
     let Command::Deliver(pick) = command else {
@@ -82,41 +82,24 @@ pub(crate) struct Step<'a> {
     pub(crate) before: Before,
 }
 
-/// Writes a step as an object of JSON, on a machine that has played it, with a text behind its data.
-pub(crate) fn write_with<F: MissFile, W: Write>(
-    alloc: Global,
-    machine: &Machine<F>,
-    step: &Step<'_>,
-    text: &[u8],
-    out: &mut W,
-) -> Result<(), TextFault>
-    ensures written { OnOk result (WritesWith machine.now.config step.now.number step.now.line.now
-        step.now.answer.now step.now.command step.now.before machine.now.slices.items text.now
-        (W.contents out.old) (W.contents out.new)) }
-    ensures fault { IfErr result IsOfRun }
-{
-    write_data(alloc, machine, step, out)?;
-    tell(text, out)?;
-    end(out)
-}
-
-/// Writes the data of a step: the front of the object.
-fn write_data<F: MissFile, W: Write>(
+/// Writes a step as an object of JSON, on a machine that has played it.
+pub(crate) fn write_step<F: MissFile, W: Write>(
     alloc: Global,
     machine: &Machine<F>,
     step: &Step<'_>,
     out: &mut W,
 ) -> Result<(), TextFault>
-    ensures written { OnOk result (WritesData machine.now.config step.now.number step.now.line.now
+    ensures written { OnOk result (WritesStep machine.now.config step.now.number step.now.line.now
         step.now.answer.now step.now.command step.now.before machine.now.slices.items
         (W.contents out.old) (W.contents out.new)) }
     ensures fault { IfErr result IsOfRun }
 {
     let scope = scope_of(&machine.config, step.command);
-    // what takes memory comes first, so that the data are written whole or not at all
+    // what takes memory comes first, so that a step is written whole or not at all
     let core = core_text(alloc, machine, scope)?;
     begin(machine, step, scope, out)?;
-    tell(core.as_slice(), out)
+    tell(core.as_slice(), out)?;
+    end(out)
 }
 
 /// What the core has whose copy the command can have changed.
@@ -136,8 +119,7 @@ fn core_text<F: MissFile>(
     }
 }
 
-/// Writes a text.
-pub(crate) fn tell<W: Write>(text: &[u8], out: &mut W) -> Result<(), TextFault>
+fn tell<W: Write>(text: &[u8], out: &mut W) -> Result<(), TextFault>
     ensures told { OnOk result (Appends (W.contents out.old) (W.contents out.new) text.now) }
     ensures fault { IfErr result IsOfRun }
 {
@@ -147,7 +129,7 @@ pub(crate) fn tell<W: Write>(text: &[u8], out: &mut W) -> Result<(), TextFault>
     }
 }
 
-/// Writes the data of a step but what the core has.
+/// Writes all of a step but what the core has.
 fn begin<F: MissFile, W: Write>(
     machine: &Machine<F>,
     step: &Step<'_>,
@@ -271,7 +253,6 @@ fn tell_core<F: MissFile, W: Write>(
     }
 }
 
-/// Writes the end of a step.
 fn end<W: Write>(out: &mut W) -> Result<(), TextFault>
     ensures ended { OnOk result (Appends (W.contents out.old) (W.contents out.new) (codes "},\n")) }
     ensures fault { IfErr result IsOfRun }

@@ -66,16 +66,13 @@ Examples: lockup chart examples/shared_line.txt
 
 /// What stands below the options of `page`.
 pub const PAGE: &str = "\
-With --branches each step also has what each delivery that can be made then leads to, on a copy of
-the machine: choose it in the page, and go back to the run from there. N is from 1 to 4, since a
-page grows with the number of choices to the power of N.
-
 With --guess the page asks for the answer of each command before it shows it.
 
-Documents: docs/TEXTS.md (pages, and the values in them)
+Documents: docs/TEXTS.md (pages, and the values in them; the page that tools/browser makes, in which
+any command goes on from any step)
 
 Examples: lockup page examples/shared_line.txt > run.html
-          lockup page --branches 2 examples/two_upgrades_at_once.txt > run.html";
+          lockup page --guess examples/two_upgrades_at_once.txt > run.html";
 
 /// What stands below the options of `litmus`.
 pub const LITMUS: &str = "\

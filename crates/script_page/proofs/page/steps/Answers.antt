@@ -10,26 +10,21 @@ pub returns-in-Ok-clause-steps : goal.returns-in-Ok-clause-steps
 returns-in-Ok-clause-steps g c =
     let config = c.args.machine.config in
     let contents = g.W.Write.contents in
-    let depth = c.args.extras.depth in
-    let new = c.new-player.ensures.machine in
+    let new = c.new-player.ensures in
     let is = ap (λ machine. machine.config) new in
-    let deep = c.new-player.ensures.depth in
-    let played = all_shown (λ p. p.explained.machine.slices.items)
-    (λ p. (p.explained.machine.config ≡ config) × (p.depth ≡ depth)) _
-    (Steps depth config)
+    let played = all_shown (λ p. p.explained.machine.slices.items) (λ p. p.explained.machine.config ≡ config) _
+    (Steps config)
     (λ old new line command before after same made. (
-      (made.0 ∙ same.0, made.1 ∙ same.1),
-      subst (λ d. Steps d config old.explained.machine.slices.items line command before after
-          new.explained.machine.slices.items) same.1
-          (subst (λ k. Steps old.depth k old.explained.machine.slices.items line command before after
-          new.explained.machine.slices.items) same.0 made.2),
+      made.0 ∙ same,
+      subst (λ k. Steps k old.explained.machine.slices.items line command before after
+          new.explained.machine.slices.items) same made.1,
     ))
-    _ _ _ _ _ _ (is, deep) c.in-Ok.ensures.played in
+    _ _ _ _ _ _ is c.in-Ok.ensures.played in
     let end = c.play.new.player.explained.machine.slices.items in
     on_ok_weaker c.end.result (λ ended. record {
       end = end;
       last = contents c.play.new.out;
-      played = played_from depth config _ (commands_of c.args.commands) _ c.args.machine.slices.items
+      played = played_from config _ (commands_of c.args.commands) _ c.args.machine.slices.items
           (contents c.args.out.now) (contents c.play.new.out) is
           (ap (λ machine. machine.slices.items) new) end played;
       ended = ended;
@@ -39,25 +34,20 @@ pub returns-clause-fault : goal.returns-clause-fault
 returns-clause-fault g c =
     let config = c.args.machine.config in
     let contents = g.W.Write.contents in
-    let depth = c.args.extras.depth in
-    let new = c.new-player.ensures.machine in
+    let new = c.new-player.ensures in
     let is = ap (λ machine. machine.config) new in
-    let deep = c.new-player.ensures.depth in
-    let stopped = up_to_shown (λ p. p.explained.machine.slices.items)
-    (λ p. (p.explained.machine.config ≡ config) × (p.depth ≡ depth)) _
-    (Steps depth config)
+    let stopped = up_to_shown (λ p. p.explained.machine.slices.items) (λ p. p.explained.machine.config ≡ config) _
+    (Steps config)
     (λ old new line command before after same made. (
-      (made.0 ∙ same.0, made.1 ∙ same.1),
-      subst (λ d. Steps d config old.explained.machine.slices.items line command before after
-          new.explained.machine.slices.items) same.1
-          (subst (λ k. Steps old.depth k old.explained.machine.slices.items line command before after
-          new.explained.machine.slices.items) same.0 made.2),
+      made.0 ∙ same,
+      subst (λ k. Steps k old.explained.machine.slices.items line command before after
+          new.explained.machine.slices.items) same made.1,
     ))
-    _ _ _ _ _ c.in-Err.fault (is, deep) c.in-Err.ensures.fault in
+    _ _ _ _ _ c.in-Err.fault is c.in-Err.ensures.fault in
     inr (record {
       first = contents c.args.out.now;
       last = contents c.play.new.out;
-      stopped = stopped_from depth config _ (commands_of c.args.commands) _ c.args.machine.slices.items
+      stopped = stopped_from config _ (commands_of c.args.commands) _ c.args.machine.slices.items
           (contents c.args.out.now) (contents c.play.new.out) is
           (ap (λ machine. machine.slices.items) new) c.in-Err.fault stopped;
     })

@@ -18,5 +18,5 @@ returns g c =
     (then _ _ _ _ _ c.in_ok-write_diagram.ensures
     (then _ _ _ _ _ (one _ _ _ (c.in_ok-write_str-3.ensures.ok refl))
     (then _ _ _ _ _ (one _ _ _ (c.in_ok-write_str-4.ensures.ok refl))
-    (then _ _ _ _ _ c.in_ok-write_extras.ensures (one _ _ _ last)))))))
+    (then _ _ _ _ _ c.in_ok-write_if.ensures (one _ _ _ last)))))))
     (on_ok_from c.write_str-5.result c.write_str-5.ensures.ok)

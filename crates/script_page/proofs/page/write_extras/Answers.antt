@@ -1,8 +1,0 @@
-use Rattle.std.proofs.Output.{writes_in_calls_append}
-use Rattle.std.proofs.lemmas.Result.{on_ok_weaker}
-use Rattle.script_page.proofs.page.write_extras.Goals as goal
-
-pub returns : goal.returns
-returns g c =
-    let then = writes_in_calls_append g.W.Write.write_str_gives in
-    on_ok_weaker c.write_if-2.result (λ last. then _ _ _ _ _ c.in_ok-write_if.ensures last) c.write_if-2.ensures

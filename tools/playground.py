@@ -17,7 +17,9 @@ import kit
 PARTS = f"{kit.ROOT}/browser"
 CODE = ["parts", "engine", "edits", "link", "script", "run", "moves", "keys", "goals", "settings", "litmus", "plot", "programs", "panels",
         "main"]
+# the kinds of texts: where the examples of each are, and what reads one
 TEXTS = {"scripts": "examples", "litmus": "examples/litmus", "programs": "examples/programs", "exercises": "examples/exercises"}
+READERS = {"scripts": ["script", "-"], "litmus": ["walk", "-", "--rounds", "1"], "programs": ["run", "-"], "exercises": ["test", "-"]}
 # A page that is longer isn't sent by mail, nor opened at once.
 MOST = 1_500_000
 
@@ -40,19 +42,17 @@ def is_proved(module):
     return os.path.isfile(module) and not os.path.exists(f"{module}.unproved")
 
 
-def write(module, to, opened=None):
-    """Writes the page around the module as the file `to`, and has it open with the script of a file, if one is given. Returns
-    what was said where that fails, or None."""
+def write(module, to, file=None):
+    """Writes the page around the module as the file `to`, and has it open with the text of `file`, if one is given. Returns what
+    was said where that fails, or None."""
     told, said = ask(module, [(["page", "-"], ""), (["--version"], "")])
     if said or not all(told):
         return f"the module doesn't run: {said or 'it prints nothing'}"
     frame, version = told
-    script = None
-    if opened:
-        script, said = script_of(module, opened)
-        if said:
-            return said
-    text = page_of(module, live(frame), version.strip() + ("" if is_proved(module) else " (not proved)"), script)
+    opened, said = text_of(module, file) if file else (None, None)
+    if said:
+        return said
+    text = page_of(module, live(frame), version.strip() + ("" if is_proved(module) else " (not proved)"), opened)
     if len(text) > MOST:
         return f"the page has {len(text)} bytes, and may have {MOST}"
     with open(f"{to}.new", "w", encoding="utf-8", newline="\n") as it:
@@ -61,25 +61,36 @@ def write(module, to, opened=None):
     return None
 
 
-def script_of(module, file):
-    """Returns the script of a file, and what was said where it is none."""
+def text_of(module, file):
+    """Returns the text of a file with its kind, and what was said where it is none."""
     try:
         with open(file, encoding="utf-8") as it:
-            script = it.read()
+            text = it.read()
     except (OSError, UnicodeDecodeError) as wrong:
         return None, f"{file} can't be read: {wrong}"
-    return script, ask(module, [(["script", "-"], script)])[1].strip()
+    kind = kind_of(text)
+    return {"kind": kind, "text": text}, ask(module, [(READERS[kind], text)])[1].strip()
+
+
+def kind_of(text):
+    """Returns the kind of a text, which some line of it tells."""
+    lines = [it.strip() for it in text.splitlines() if not it.startswith("#")]
+    if any(it.startswith("lockup-litmus") for it in lines):
+        return "litmus"
+    if any(it.startswith("core ") for it in lines):
+        return "programs"
+    return "exercises" if any("=" in it for it in lines) else "scripts"
 
 
 def ask(module, calls):
     """Runs the program for each call, which has its words and its input. Returns the output of each, and what the first said
-    that fails."""
+    that isn't taken."""
     asked = json.dumps([{"words": words, "input": latin(text)} for words, text in calls])
     ran = subprocess.run(["node", f"{PARTS}/many.mjs", module], input=asked, capture_output=True, text=True)
     if ran.returncode:
         return [], ran.stderr
     told = json.loads(ran.stdout)
-    said = next((it["err"] or "it fails" for it in told if it["status"]), "")
+    said = next((it["err"] or "it fails" for it in told if it["status"] not in (0, 1)), "")
     return [it["out"].encode("latin1").decode() for it in told], said
 
 
@@ -88,11 +99,11 @@ def latin(text):
     return text.encode().decode("latin1")
 
 
-def page_of(module, frame, version, script):
-    """Returns the page, which opens with the script, if there is one."""
+def page_of(module, frame, version, opened):
+    """Returns the page, which opens with a text, if there is one."""
     with open(module, "rb") as it:
         packed = base64.b64encode(gzip.compress(it.read(), 9, mtime=0)).decode()
-    data = {"frame": frame, "worker": without_exports(read("machine.mjs")) + read("worker.js"), "texts": texts(), "script": script,
+    data = {"frame": frame, "worker": without_exports(read("machine.mjs")) + read("worker.js"), "texts": texts(), "opened": opened,
             "about": f"{version}, the whole program in this page. It takes nothing from a network, and sends nothing."}
     code = "'use strict';\n" + "\n".join(read(f"page/{name}.js") for name in CODE)
     style = read("page.css")

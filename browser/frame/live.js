@@ -166,10 +166,16 @@ document.addEventListener('keydown', event => {
         event.preventDefault();
         parent.postMessage({ asked: { history: key === 'y' || shiftKey ? 'redo' : 'undo' } }, '*');
     }
+    if (event.defaultPrevented || event.altKey || ctrlKey || metaKey) return;
+    // what changes its size does so in a number and a choice too
+    if (['+', '-'].includes(key)) {
+        event.preventDefault();
+        larger(key === '+' ? 1 : -1);
+        return;
+    }
     // all other keys are the page's around it, but where something is written, or read that they would scroll
     const isRead = at('focus').contains(target) && key.startsWith('Arrow');
-    if (event.defaultPrevented || event.altKey || ctrlKey || metaKey || isRead) return;
-    if (['INPUT', 'SELECT', 'TEXTAREA'].includes(target.tagName)) return;
+    if (isRead || ['INPUT', 'SELECT', 'TEXTAREA'].includes(target.tagName)) return;
     if (/^(.|Arrow\w+)$/.test(key)) parent.postMessage({ asked: { key } }, '*');
 });
 
@@ -178,5 +184,6 @@ addEventListener('message', ({ source, data }) => {
     if (data.take) take(data.take);
     if (data.go) show(now + data.go);
     if (data.goEvent) show(eventFrom(now, data.goEvent));
+    if (data.larger) larger(data.larger);
 });
 parent.postMessage({ ready: true }, '*');

@@ -3,6 +3,7 @@
 const LETTERS = { l: 'load', s: 'store', a: 'add', c: 'cas' };
 const STEPS = { ArrowLeft: -1, ArrowRight: 1, Home: -Infinity, End: Infinity };
 const EVENTS = { PageUp: -1, PageDown: 1 };
+const SIZES = { '+': 1, '-': -1 };
 const SAID = [
     ['L, S, A, C', 'load, store, add or cas of the core that is marked, to the word that stands above it'],
     ['arrow up, down', 'marks another core'],
@@ -13,6 +14,7 @@ const SAID = [
     ['U, R', 'undo, redo; as Ctrl Z and Ctrl Y'],
     ['arrow left, right', 'a step back, forward; Home and End: to the first, to the last'],
     ['PageUp, PageDown', 'to the event before, to the next one'],
+    ['+, -', 'the run larger, smaller'],
     ['?', 'shows this'],
 ];
 
@@ -39,6 +41,7 @@ class Keys {
         if (key === '?') this.show();
         else if (STEPS[key]) this.run.go(STEPS[key]);
         else if (EVENTS[key]) this.run.goEvent(EVENTS[key]);
+        else if (SIZES[key]) this.run.larger(SIZES[key]);
         else return isPlay && this.act(key);
         return true;
     }

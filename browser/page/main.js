@@ -4,7 +4,9 @@ const DATA = JSON.parse(at('data').textContent);
 const EMPTY = '# An empty machine: issue an access, and deliver its messages one by one.\n';
 const HINT = 'No cache has anything yet.';
 const PLAY = 'play';
-const edits = new Edits(DATA.script || EMPTY);
+// what the page opens with
+const OPENED = DATA.opened || { kind: 'scripts', text: EMPTY };
+const edits = new Edits(OPENED.kind === 'scripts' ? OPENED.text : EMPTY);
 // the step that the frame shows last, and the number of the run that it was handed last
 let shown = null;
 let number = 0;
@@ -149,10 +151,15 @@ async function openLink() {
     }
 }
 
+// Whether an element keeps a key for itself: a text each, and a number or a choice those that don't change the size.
 const FIELDS = ['INPUT', 'SELECT', 'TEXTAREA'];
+function keepsKey({ tagName, type }, key) {
+    if (!FIELDS.includes(tagName) || type === 'checkbox') return false;
+    return !Object.hasOwn(SIZES, key) || tagName === 'TEXTAREA' || type === 'text';
+}
 function press(event) {
     const { key, ctrlKey, metaKey, shiftKey, altKey, target } = event;
-    const writes = FIELDS.includes(target.tagName) && target.type !== 'checkbox';
+    const writes = keepsKey(target, key);
     if ((ctrlKey || metaKey) && ['z', 'Z', 'y'].includes(key) && (!writes || target.id === 'script')) {
         event.preventDefault();
         goBack(key === 'y' || shiftKey ? 'redo' : 'undo');
@@ -229,6 +236,7 @@ async function begin() {
     if (await openLink()) return;
     if (before) open(before);
     else play();
+    if (OPENED.kind !== 'scripts') KINDS[OPENED.kind](OPENED.text);
 }
 begin().catch(wrong => {
     at('answer').textContent = 'This browser can\'t run it: ' + wrong.message;

@@ -37,6 +37,9 @@ class Run {
     goEvent(by) {
         this.send({ goEvent: by });
     }
+    larger(by) {
+        this.send({ larger: by });
+    }
 }
 function joined(before, run) {
     return { same: before.same, steps: [...before.steps.slice(0, run.same - before.same), ...run.steps] };

@@ -13,6 +13,7 @@ the program under test says of the same script.
 - nothing of a script is read as HTML, be it in a link, in the text or in the picture; a link that can't be read, or unfolds to
   too much, is refused; the page's policy lets no network and no code of others in;
 - its memory doesn't grow over 1,000 clicks;
+- in Firefox too its first answer comes, an access is issued and its messages are delivered, without an error;
 - its code has nothing that browsers of 2023 lack;
 - on a telephone, a tablet and a desk nothing is cut or stands behind something else.
 """
@@ -29,6 +30,7 @@ from typing import Iterator
 from harness import ROOT, Different, each, lockup, read, run, same, seconds, want, write
 from harness.browser import folder
 from harness.chromium import Chromium
+from harness.firefox import Firefox
 from harness.processes import read
 
 CTRL, SHIFT = 2, 8
@@ -281,6 +283,33 @@ def test_by_keys() -> None:
         it.key("l")
         it.settle()
         same("in the text", 4, len(it.commands()))
+
+
+@seconds(5)
+def test_larger_and_smaller() -> None:
+    """By keys, wherever they are pressed, but in a text, which keeps them."""
+    with page() as it:
+        it.do('[data-issue="0 load"]')
+
+        def grows(how: str) -> None:
+            for key, size in (("+", 1.25), ("+", 1.5), ("-", 1.25), ("-", 1)):
+                it.key(key)
+                until = time.monotonic() + 5
+                while it.get_in_frame("zoom") != size:
+                    want(time.monotonic() < until, f"the run isn't as large as {size} after {key} {how}")
+        grows("on a button")
+        for place in ("#word", "#menu", "summary"):
+            it.get(f"document.querySelector({place!r}).focus()")
+            grows(f"in {place}")
+        for place in ("#time", "#step", "#speed"):
+            it.get("document.querySelector('iframe').focus()")
+            it.get_in_frame(f"document.querySelector({place!r}).focus()")
+            grows(f"in {place} of the run")
+        for place in ("#script", "#value"):
+            it.get(f"document.querySelector({place!r}).focus()")
+            it.key("+")
+            it.settle()
+            same(f"in {place}", 1, it.get_in_frame("zoom"))
 
 
 @seconds(5)
@@ -631,13 +660,63 @@ def test_a_page_of_a_script() -> None:
             want(ran.status == 2 and said in ran.err, f"it says {ran.err!r}")
 
 
+@seconds(8)
+@each(lambda: ["litmus/mp", "programs/ping_pong", "exercises/with_a_mistake"])
+def test_a_page_of_another_text(name: str) -> None:
+    """It opens with what reads the text, beside an empty machine; what is no such text is refused as the program does."""
+    kind, short = name.split("/")
+    area = {"litmus": "litmus-text", "programs": "program-text", "exercises": "exercise-text"}[kind]
+    text = read(ROOT / f"examples/{name}.txt")
+    made = run([ROOT / "tools/browser", "--to", folder(), "--page", ROOT / f"examples/{name}.txt"])
+    same("tools/browser", (0, f"{folder()}/{short}.html\n", ""), tuple(made))
+    with Page() as it:
+        for time_ in ("first", "again"):
+            it.open(f"file://{folder()}/{short}.html")
+            it.wait(f"document.body && document.body.dataset.step && document.body.dataset.tab === '{kind}'")
+            it.settle()
+            same(f"what is opened {time_}", (text, []), (it.get(f"at('{area}').value"), it.commands()))
+    (folder() / f"{short}.html").unlink()
+    with tempfile.TemporaryDirectory() as room:
+        wrong = write(f"{room}/wrong.txt", text + "nothing 1\n")
+        ran = run([ROOT / "tools/browser", "--to", folder(), "--page", wrong])
+        line = text.count("\n") + 1
+        want(ran.status == 2 and f"lockup: line {line}: " in ran.err, f"it says {ran.err!r}")
+
+
+# ---- in another browser
+
+@seconds(20)
+def test_in_firefox() -> None:
+    """Its first answer comes, an access is issued, and its messages are delivered by a click each; a core's states and the
+    picture are those of the program; nothing is told as an error."""
+    folder()
+    with Firefox() as it:
+        it.open(f"file://{folder()}/lockup.html")
+        it.wait(f"{STEP} === '0 of 0'")
+        same("its first answer", "No cache has anything yet.", it.get("document.getElementById('answer').textContent"))
+        for count, selector in enumerate(['[data-issue="0 add"]', '[data-command="deliver req 0 0"]',
+                                          '[data-command="deliver data 0 0"]', "#hand button"], 1):
+            it.click(selector)
+            it.wait(f"{STEP} === '{count} of {count}'")
+        script = it.get("document.getElementById('script').value")
+        wanted = ["issue 0 0 add 0 1", "deliver req 0 0", "deliver data 0 0", "hand 0 0"]
+        same("the script", wanted, [line for line in script.split("\n") if line and not line.startswith("#")])
+        answer = it.get("document.getElementById('answer').textContent")
+        same("its last answer", answers_of(script)[-2], answer.split("   ")[0])
+        same("states in the picture", ["M", "M", "I"],
+             it.get_in_frame("[...document.querySelectorAll('[data-chip]')].map(it => it.textContent)"))
+        it.click('[data-to="tables"]')
+        it.wait("document.querySelectorAll('#both table').length > 1")
+        same("errors of the page", [], it.errors())
+
+
 # what came to browsers after 2023
 NEW = re.compile(r"withResolvers|\bgroupBy\b|fromAsync|Promise\.try|RegExp\.escape|fromBase64|toBase64|Iterator\."
                  r"|\.(union|intersection|difference)\(|popover|\busing \w+ =|@starting-style|anchor-name|text-wrap|field-sizing")
 
 
 def test_nothing_new() -> None:
-    """Neither code nor style has what browsers of 2023 lack: Safari and Firefox aren't tried here."""
+    """Neither code nor style has what browsers of 2023 lack: Safari isn't tried here."""
     for file in sorted((ROOT / "browser").rglob("*")):
         if file.suffix in (".js", ".mjs", ".css", ".html") and "out" not in file.parts:
             same(f"new words in {file.relative_to(ROOT)}", [], [line for line in read(file).splitlines() if NEW.search(line)])

@@ -2,6 +2,7 @@
 
 - No label stands on another, nor on a lifeline, at each step of each example, on a telephone, a tablet and a desk; and
   what the step is about always has its words.
+- The commands at the left edge are whole, in narrow windows too.
 - The core and the line that act are in view at each step, also of eight cores, where the directory stays in view.
 - Several lines have lanes of their own, as the steps need them or as they are chosen; so one sees the misses that wait,
   and in each the accesses, from their issue to their performance.
@@ -18,7 +19,7 @@ from typing import Any, Iterator
 
 from harness import each, lockup, same, seconds, want, write
 from harness.chromium import Chromium
-from harness.scripts import example, examples, is_trace
+from harness.scripts import example, examples, is_command, is_trace
 from suite.page import needs_a_browser
 
 PARTS = """
@@ -146,6 +147,21 @@ def test_labels_that_are_shortened_say_all() -> None:
     with page(example("forwards_that_wait"), "#step=20", 390, 844) as it:
         for name, title in it.get("all('[data-channel]').map(it => [it.dataset.name, it.querySelector('title').textContent])"):
             want(title.startswith(name), f"'{title}' is said of {name}")
+
+
+@seconds(10)
+@each(lambda: ["390x844", "896x676", "1400x900"])
+def test_commands_are_whole(size: str) -> None:
+    """Of two cores each command at the left edge stands there whole, and its answer."""
+    width, height = map(int, size.split("x"))
+    script = example("invalidation_before_data")
+    with page(script, width=width, height=height) as it:
+        found = it.get("""Array.from({ length: steps.length }, (_, before) => {
+            show(before + 1);
+            return document.querySelector('.row.current .text').textContent;
+        })""")
+        commands = [line for line in script.splitlines() if is_command(line)]
+        same("commands", [f"{number} {line}" for number, line in enumerate(commands, 1)], found)
 
 
 # ---- what is in view

@@ -670,11 +670,11 @@ def test_a_page_of_another_text(name: str) -> None:
     made = run([ROOT / "tools/browser", "--to", folder(), "--page", ROOT / f"examples/{name}.txt"])
     same("tools/browser", (0, f"{folder()}/{short}.html\n", ""), tuple(made))
     with Page() as it:
-        for time_ in ("first", "again"):
+        for visit in ("first", "again"):
             it.open(f"file://{folder()}/{short}.html")
             it.wait(f"document.body && document.body.dataset.step && document.body.dataset.tab === '{kind}'")
             it.settle()
-            same(f"what is opened {time_}", (text, []), (it.get(f"at('{area}').value"), it.commands()))
+            same(f"what is opened {visit}", (text, []), (it.get(f"at('{area}').value"), it.commands()))
     (folder() / f"{short}.html").unlink()
     with tempfile.TemporaryDirectory() as room:
         wrong = write(f"{room}/wrong.txt", text + "nothing 1\n")

@@ -68,8 +68,10 @@ Examples: lockup chart examples/shared_line.txt
 pub const PAGE: &str = "\
 With --guess the page asks for the answer of each command before it shows it.
 
-Documents: docs/TEXTS.md (pages, and the values in them; the page that tools/browser makes, in which
-any command goes on from any step)
+The page shows this run. To go another way from one of its steps, make a page that has the program
+itself: tools/browser --page FILE.
+
+Documents: docs/TEXTS.md (pages, and the values in them; the page to play with)
 
 Examples: lockup page examples/shared_line.txt > run.html
           lockup page --guess examples/two_upgrades_at_once.txt > run.html";

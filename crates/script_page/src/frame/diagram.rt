@@ -14,8 +14,8 @@ function drawRow(place, row) {
     const other = row.line !== undefined && !shown.includes(row.line) ? ' other' : '';
     const current = row.step === now ? ' current' : '';
     const group = drawn('g', 'row' + other + current, { 'data-step': row.step, 'data-row': row.number });
-    const [most, size, less] = isNarrow ? [Math.floor((label - 5) / 5.8), 9.5, 9] : [24, 11, 10];
-    const text = row.step + (row.within ? ' · ' : ' ') + row.text;
+    const [most, size, less] = isNarrow ? [Math.floor((label - 5) / COMMANDS.letter), 9.5, 9] : [COMMANDS.most, 11, 10];
+    const text = numberedOf(row);
     const short = text.length > most ? text.slice(0, most - 1) + '…' : text;
     group.append(drawn('title', '', {}, text + ': ' + row.said),
         drawn('line', 'rule', { x1: label, x2: width, y1: y, y2: y }));

@@ -77,8 +77,9 @@ const SIZES = [
     { half: 8, pitch: 20, side: [30, 80], between: 70 },
 ];
 const NARROW = { side: [19, 19], between: 55 };
-// how wide the commands are; in less room, for one line, and for several or where not all are in view at once
-const COMMANDS = { wide: [172, 172], narrow: [108, 92] };
+// how wide the commands are; in less room, for one line, and for several or where not all are in view at once; of how many
+// letters at most, and how wide each is in less room
+const COMMANDS = { wide: [172, 172], narrow: [108, 92], most: 24, letter: 5.8 };
 const WIDE = 620;
 function sizesOf(count, isNarrow) {
     const [one, several] = COMMANDS[isNarrow ? 'narrow' : 'wide'];
@@ -91,7 +92,13 @@ function sizesOf(count, isNarrow) {
 // .. narrow where they don't fit else
 function sizesFor(count, width) {
     const [wide, narrow] = [sizesOf(count, false), sizesOf(count, true)];
-    return wide.least <= width || narrow.least > width && width >= WIDE ? wide : narrow;
+    return wide.least <= width || narrow.least > width && width >= WIDE ? wide : withCommands(narrow, width);
+}
+// of what is left over then the commands have as much as they need, and half of it at most
+function withCommands(sizes, width) {
+    const needed = 8 + COMMANDS.letter * Math.min(COMMANDS.most, longest) - sizes.label;
+    const more = Math.max(0, Math.min(needed, (width - sizes.least) / 2));
+    return { ...sizes, label: sizes.label + more, least: sizes.least + more };
 }
 // Where they are: all between the edges; or where they don't fit, the directory beside the commands, and as many cores as do.
 const SCROLLED = { side: 46, more: 16 };

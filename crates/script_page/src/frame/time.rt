@@ -49,6 +49,10 @@ function effectOf({ op, value, expect, reply }) {
 }
 const textOf = it => it.op === 'store' ? it.access : `${it.access}: ${it.effect}`;
 
+// a row's command with its number, and how long the longest of these is
+const numberedOf = row => row.step + (row.within ? ' · ' : ' ') + row.text;
+let longest = 0;
+
 // Every message, from the step of its sending to that of its delivery. The channels keep their order.
 const messages = [];
 const channels = new Map();
@@ -127,6 +131,7 @@ function readRows() {
     steps.forEach((it, before) => {
         const row = rowOf(it, before);
         row.number = rows.push(row) - 1;
+        longest = Math.max(longest, numberedOf(row).length);
         if (it.plan && it.plan.fate === 'moves') readDelivery(row);
         readSends(row, it);
         readAccesses(row);
@@ -136,7 +141,7 @@ function readRows() {
 }
 // forgets all that was read
 function forgetRun() {
-    rows.length = messages.length = accesses.length = 0;
+    rows.length = messages.length = accesses.length = longest = 0;
     for (const it of [lines, copies, parts, sets, nexts]) it.all.clear();
     for (const it of [channels, waits, waiting, named, histories, ...setsOf]) it.clear();
 }

@@ -8,20 +8,27 @@ pub const DIAGRAM: &str = r#"
 // the commands, and what each answered in a word or two; those that aren't about a line that is shown are dim
 const SHORT = ['empty', 'left', 'receipt', 'nothing', 'none'];
 const isShort = row => !row.within && (row.event || SHORT.includes(row.said.split(' ')[0]));
+// how large a command is written and its answer, and how many letters of each: in less room as large as the command fits
+function lettersOf({ isNarrow, label }, text) {
+    const { most, large, small, wide } = LETTERS;
+    if (!isNarrow) return { size: 11, most, less: 10, mostSaid: most };
+    const size = Math.min(large, Math.max(small, (label - 5) / text.length / wide));
+    return { size, most: Math.floor((label - 5) / size / wide + 0.01), less: 9, mostSaid: Math.floor((label - 16) / 9 / wide) };
+}
 function drawRow(place, row) {
-    const { isNarrow, label, width, head, height, shown } = place;
+    const { label, width, head, height, shown } = place;
     const y = place.y(row.number);
     const other = row.line !== undefined && !shown.includes(row.line) ? ' other' : '';
     const current = row.step === now ? ' current' : '';
     const group = drawn('g', 'row' + other + current, { 'data-step': row.step, 'data-row': row.number });
-    const [most, size, less] = isNarrow ? [Math.floor((label - 5) / COMMANDS.letter), 9.5, 9] : [COMMANDS.most, 11, 10];
     const text = numberedOf(row);
+    const { most, size, less, mostSaid } = lettersOf(place, text);
     const short = text.length > most ? text.slice(0, most - 1) + '…' : text;
     group.append(drawn('title', '', {}, text + ': ' + row.said),
         drawn('line', 'rule', { x1: label, x2: width, y1: y, y2: y }));
     if (y - 7 >= head && y + 7 <= height) group.append(drawn('text', 'text', { x: 5, y: y + 4, 'font-size': size }, short));
     if (y + 7 >= head && y + 20 <= height) {
-        const reply = isShort(row) ? row.said.slice(0, isNarrow ? most - 2 : most) : '';
+        const reply = isShort(row) ? row.said.slice(0, mostSaid) : '';
         group.append(drawn('text', 'reply', { x: 16, y: y + 17, 'font-size': less }, reply));
     }
     return group;

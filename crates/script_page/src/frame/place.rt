@@ -77,9 +77,11 @@ const SIZES = [
     { half: 8, pitch: 20, side: [30, 80], between: 70 },
 ];
 const NARROW = { side: [19, 19], between: 55 };
-// how wide the commands are; in less room, for one line, and for several or where not all are in view at once; of how many
-// letters at most, and how wide each is in less room
-const COMMANDS = { wide: [172, 172], narrow: [108, 92], most: 24, letter: 5.8 };
+// how wide the commands are; in less room, for one line, and for several or where not all are in view at once
+const COMMANDS = { wide: [172, 172], narrow: [108, 92] };
+// how many of their letters are shown where there is room, how large these are at most and at least where there is less, and
+// how wide one of size 1
+const LETTERS = { most: 24, large: 9.5, small: 8, wide: 0.61 };
 const WIDE = 620;
 function sizesOf(count, isNarrow) {
     const [one, several] = COMMANDS[isNarrow ? 'narrow' : 'wide'];
@@ -94,10 +96,10 @@ function sizesFor(count, width) {
     const [wide, narrow] = [sizesOf(count, false), sizesOf(count, true)];
     return wide.least <= width || narrow.least > width && width >= WIDE ? wide : withCommands(narrow, width);
 }
-// of what is left over then the commands have as much as they need, and half of it at most
+// of what is left over then the commands have as much as they need, and a third of it at most
 function withCommands(sizes, width) {
-    const needed = 8 + COMMANDS.letter * Math.min(COMMANDS.most, longest) - sizes.label;
-    const more = Math.max(0, Math.min(needed, (width - sizes.least) / 2));
+    const needed = 8 + LETTERS.wide * LETTERS.large * Math.min(LETTERS.most, longest) - sizes.label;
+    const more = Math.max(0, Math.min(needed, (width - sizes.least) / 3));
     return { ...sizes, label: sizes.label + more, least: sizes.least + more };
 }
 // Where they are: all between the edges; or where they don't fit, the directory beside the commands, and as many cores as do.

@@ -13,6 +13,7 @@ the program under test says of the same script.
 - nothing of a script is read as HTML, be it in a link, in the text or in the picture; a link that can't be read, or unfolds to
   too much, is refused; the page's policy lets no network and no code of others in;
 - its memory doesn't grow over 1,000 clicks;
+- in Firefox too its first answer comes, an access is issued and its messages are delivered, without an error;
 - its code has nothing that browsers of 2023 lack;
 - on a telephone, a tablet and a desk nothing is cut or stands behind something else.
 """
@@ -29,6 +30,7 @@ from typing import Iterator
 from harness import ROOT, Different, each, lockup, read, run, same, seconds, want, write
 from harness.browser import folder
 from harness.chromium import Chromium
+from harness.firefox import Firefox
 from harness.processes import read
 
 CTRL, SHIFT = 2, 8
@@ -681,13 +683,40 @@ def test_a_page_of_another_text(name: str) -> None:
         want(ran.status == 2 and f"lockup: line {line}: " in ran.err, f"it says {ran.err!r}")
 
 
+# ---- in another browser
+
+@seconds(20)
+def test_in_firefox() -> None:
+    """Its first answer comes, an access is issued, and its messages are delivered by a click each; a core's states and the
+    picture are those of the program; nothing is told as an error."""
+    folder()
+    with Firefox() as it:
+        it.open(f"file://{folder()}/lockup.html")
+        it.wait(f"{STEP} === '0 of 0'")
+        same("its first answer", "No cache has anything yet.", it.get("document.getElementById('answer').textContent"))
+        for count, selector in enumerate(['[data-issue="0 add"]', '[data-command="deliver req 0 0"]',
+                                          '[data-command="deliver data 0 0"]', "#hand button"], 1):
+            it.click(selector)
+            it.wait(f"{STEP} === '{count} of {count}'")
+        script = it.get("document.getElementById('script').value")
+        wanted = ["issue 0 0 add 0 1", "deliver req 0 0", "deliver data 0 0", "hand 0 0"]
+        same("the script", wanted, [line for line in script.split("\n") if line and not line.startswith("#")])
+        answer = it.get("document.getElementById('answer').textContent")
+        same("its last answer", answers_of(script)[-2], answer.split("   ")[0])
+        same("states in the picture", ["M", "M", "I"],
+             it.get_in_frame("[...document.querySelectorAll('[data-chip]')].map(it => it.textContent)"))
+        it.click('[data-to="tables"]')
+        it.wait("document.querySelectorAll('#both table').length > 1")
+        same("errors of the page", [], it.errors())
+
+
 # what came to browsers after 2023
 NEW = re.compile(r"withResolvers|\bgroupBy\b|fromAsync|Promise\.try|RegExp\.escape|fromBase64|toBase64|Iterator\."
                  r"|\.(union|intersection|difference)\(|popover|\busing \w+ =|@starting-style|anchor-name|text-wrap|field-sizing")
 
 
 def test_nothing_new() -> None:
-    """Neither code nor style has what browsers of 2023 lack: Safari and Firefox aren't tried here."""
+    """Neither code nor style has what browsers of 2023 lack: Safari isn't tried here."""
     for file in sorted((ROOT / "browser").rglob("*")):
         if file.suffix in (".js", ".mjs", ".css", ".html") and "out" not in file.parts:
             same(f"new words in {file.relative_to(ROOT)}", [], [line for line in read(file).splitlines() if NEW.search(line)])

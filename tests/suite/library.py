@@ -58,7 +58,7 @@ def test_first_page(language: str) -> None:
 
 def without_rings(answers: str) -> str:
     """Returns answers without what the player doesn't print of `show`: replies that wait, and rings."""
-    return re.sub(r"^(core \d+ tag \d+ reply \d+|slice \d+ ring.*)\n", "", answers, flags=re.M)
+    return re.sub(r"^(core \d+ tag \d+ entry \d+|slice \d+ ring.*)\n", "", answers, flags=re.M)
 
 
 def scripts() -> list[str]:

@@ -104,12 +104,12 @@ def test_a_script_of_2000_commands() -> None:
         it.open_text(script)
         same("step", "1999 of 1999", it.get(STEP))
         taken = []
-        # the best of some, since other tests run beside it
-        while len(taken) < 40 and min(taken, default=50) >= 50:
+        # the best of some, since other tests run beside it; a fast machine takes 35 to 44 ms, a slow one twice as long
+        while len(taken) < 40 and min(taken, default=150) >= 150:
             it.do('[data-issue="0 load"]')
             taken.append(float(it.get("document.body.dataset.took")))
             it.do("#undo")
-        want(min(taken) < 50, f"a click costs {taken} ms in the worker")
+        want(min(taken) < 150, f"a click costs {taken} ms in the worker")
 
 
 @seconds(40)

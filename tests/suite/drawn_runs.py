@@ -3,8 +3,8 @@ with the machine: each call of the script that `lockup run FILE --seed N --scrip
 next word of the generator draws from what may come next, and there is no further call where nothing may.
 
 Programs are drawn at random: of one to four cores and slices, small arrays and miss files, with and without the
-exclusive state, with one access of a core under way and with several, with waits; and over more than 32 lines of a slice,
-where rings are kept short. Without that rule, or with another number in it, another move would be drawn, which a test
+exclusive state, with one access of a core under way and with several, with waits, with and without deliveries that each
+slice makes behind an access; and over more than 32 lines of a slice, where rings are kept short. Without that rule, or with another number in it, another move would be drawn, which a test
 of its own asks for.
 """
 import random
@@ -42,10 +42,12 @@ class Program:
 class Text:
     setting: Setting
     outstanding: int | None
+    pace: int | None
     programs: list[Program]
 
     def written(self) -> str:
         rows = self.setting.script() + ([f"outstanding {self.outstanding}"] if self.outstanding else [])
+        rows += [] if self.pace is None else [f"pace {self.pace}"]
         for program in self.programs:
             rows += [f"core {program.core}", *(words_of(step) if step else "settle" for step in program.steps)]
         return "\n".join(rows) + "\n"
@@ -69,6 +71,8 @@ class Run:
         self.text, self.account, self.generator, self.tidies = text, Account(text.setting), Generator(seed), tidies
         self.programs = [Program(it.core, it.steps) for it in text.programs]
         self.most, self.calls, self.moves = text.outstanding or 1, [], 0
+        # how many deliveries each slice has still to make behind an access
+        self.owed = [0] * text.setting.slices
 
     def may_ask(self, it: Program) -> bool:
         if it.made >= len(it.steps):
@@ -80,6 +84,11 @@ class Run:
         return it.waiting < self.most and (decided in ("hit", "primary", "secondary") or decided == "stall" and stalls)
 
     def possible(self) -> list:
+        for of in self.account.slices:
+            if self.owed[of.number]:
+                waiting = [(of, line, channel) for line in of.ring for channel in of.lines[line].waiting()]
+                if waiting:
+                    return waiting
         asks = [it for it in self.programs if self.may_ask(it)]
         nexts = [(of, *of.next("any")[:3]) for of in self.account.slices]
         return asks + [(of, line, channel) for of, answer, line, channel in nexts if answer == "moved"]
@@ -87,6 +96,7 @@ class Run:
     def ask(self, it: Program) -> None:
         step = it.next()
         if step is not None:
+            self.owed = [self.text.pace or 0] * len(self.owed)
             self.calls.append(f"issue {it.core} {it.tag()} {words_of(step)}")
             answer = self.account.issue(it.core, it.tag(), step)[0]
             if answer == "stall":
@@ -97,7 +107,7 @@ class Run:
 
     def deliver(self, of: Slice, line: int, channel: tuple) -> None:
         self.calls.append(" ".join(map(str, ["deliver", channel[0], line, *channel[1:]])))
-        before = len(of.log)
+        before, self.owed[of.number] = len(of.log), max(self.owed[of.number] - 1, 0)
         of.deliver(line, channel)
         for entry in of.log[before:]:
             self.calls.append(f"hand {entry.core} {of.number}")
@@ -129,7 +139,7 @@ def calls_of(text: Text, seed: int, tidies: Tidies = tidied) -> list[str]:
     return run.calls
 
 
-def drawn_text(seed: int, lines: int, steps: int) -> Text:
+def drawn_text(seed: int, lines: int, steps: int, pace: int | None = None) -> Text:
     """Programs that are drawn, on a machine that is."""
     draw = random.Random(seed)
     setting = Setting(
@@ -143,7 +153,7 @@ def drawn_text(seed: int, lines: int, steps: int) -> Text:
     programs = []
     for core in draw.sample(range(setting.cores), draw.randrange(1, setting.cores + 1)):
         programs.append(Program(core, [drawn_step(draw, lines) for _ in range(steps)]))
-    return Text(setting, draw.choice((None, 1, 2, 8, 64)), programs)
+    return Text(setting, draw.choice((None, 1, 2, 8, 64)), pace, programs)
 
 
 def drawn_step(draw: random.Random, lines: int) -> Step:
@@ -159,12 +169,14 @@ def texts() -> Iterator[tuple]:
         yield f"few lines, seed {seed}", seed, 8, 60
     for seed in range(100, 124):
         yield f"many lines, seed {seed}", seed, 512, 250
+    for seed in range(200, 224):
+        yield f"a pace, seed {seed}", seed, (8, 512)[seed % 2], 120, (0, 1, 2, 3, 8, 64)[seed % 6]
 
 
 @seconds(1)
 @each(texts)
-def test_run(_: str, seed: int, lines: int, steps: int) -> None:
-    text = drawn_text(seed, lines, steps)
+def test_run(_: str, seed: int, lines: int, steps: int, pace: int | None = None) -> None:
+    text = drawn_text(seed, lines, steps, pace)
     with tempfile.TemporaryDirectory() as room:
         ran = lockup("run", write(f"{room}/text.txt", text.written()), "--seed", str(seed), "--script")
     same("status", 0, ran.status)

@@ -8,7 +8,7 @@ from pathlib import Path
 
 from harness import ROOT, Skipped, each, lockup, same, write
 
-PROGRAM_NAMES = "core, load, store, add, cas, settle, repeat, end, outstanding, or a field of the configuration"
+PROGRAM_NAMES = "core, load, store, add, cas, settle, repeat, end, outstanding, pace, or a field of the configuration"
 TEST_NAMES = "thread, load, store, add, cas, settle, evict, forbid, rounds, movers, or a field of the configuration"
 OLD_TEST_NAMES = (TEST_NAMES.replace("cas, ", "") + "; cas where the first line is lockup-litmus 2")
 # behind lines 1 to 5
@@ -33,9 +33,10 @@ PROGRAMS = [
     ("core 0", "out of range", "'0': the core has a program, in line 4"),
     ("store 9 1", "store to a counter", "'9': a counter, by line 3"),
     ("store 8..15 1", "store to a counter", "'8..15': a counter, by line 3"),
-    ("ways 4", "configuration after a command", "'ways': before 'outstanding' and the first 'core'"),
+    ("ways 4", "configuration after a command", "'ways': before 'outstanding', 'pace' and the first 'core'"),
     ("ways x", "bad number", "'x': a number"),
     ("outstanding 2", "configuration after a command", "'outstanding': once, before the first 'core'"),
+    ("pace 2", "configuration after a command", "'pace': once, before the first 'core'"),
     ("l\udcc3ad 0", "not a command", f"a word that isn't printed: {PROGRAM_NAMES}"),
 ]
 WHOLE_PROGRAMS = [
@@ -45,6 +46,10 @@ WHOLE_PROGRAMS = [
     ("outstanding 0\n", 1, "out of range", "'0': a number, 1 to 64"),
     ("outstanding 65\ncore 0\n", 1, "out of range", "'65': a number, 1 to 64"),
     ("outstanding x\n", 1, "bad number", "'x': a number, 1 to 64"),
+    ("pace 65\n", 1, "out of range", "'65': a number, 0 to 64"),
+    ("outstanding 4\npace x\n", 2, "bad number", "'x': a number, 0 to 64"),
+    ("pace 0\noutstanding 4\npace 1\n", 3, "configuration after a command", "'pace': once, before the first 'core'"),
+    ("pace 2\nways 1\n", 2, "configuration after a command", "'ways': before 'outstanding', 'pace' and the first 'core'"),
     ("core 0\nrepeat 2\nload 0\n", 2, "not a command", "'repeat': it has no 'end'"),
     ("core 0\nrepeat 2\nrepeat 3\nload 0\nend\n", 2, "not a command", "'repeat': it has no 'end'"),
     ("core 0\nrepeat 2\nrepeat 3\nend\n# more\nrepeat 4\ncore 1\n", 7, "not a command",
@@ -173,6 +178,8 @@ OTHERS = [
     ("an_exercise_as_programs", "run", "waiting\n= none\n", 1, "not a command", "the text has wanted answers: 'lockup test' reads it"),
     ("a_script_walked", "walk", SCRIPT_TEXT, 1, "not a litmus text", "the text is a script: 'lockup script' reads it"),
     ("programs_walked", "litmus", "cores 2\noutstanding 2\ncore 0\n", 1, "not a litmus text",
+     "the text has programs: 'lockup run' reads it"),
+    ("paced_programs_walked", "litmus", "pace 2\ncore 0\n", 1, "not a litmus text",
      "the text has programs: 'lockup run' reads it"),
     ("a_trace_walked", "walk", "lockup-trace 1\n", 1, "not a litmus text", "the text is a trace: 'lockup check' reads it"),
     ("a_script_checked", "check", SCRIPT_TEXT, 1, "not a trace", "the text is a script: 'lockup script' reads it"),

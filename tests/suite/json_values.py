@@ -303,7 +303,7 @@ def test_check() -> None:
 @each(lambda: names(EXAMPLES / "programs"))
 def test_run(name: str) -> None:
     file = EXAMPLES / f"programs/{name}.txt"
-    for words in ((), ("--outstanding", "4")):
+    for words in ((), ("--outstanding", "4"), ("--pace", "2"), ("--outstanding", "4", "--pace", "0")):
         value_of("run", "run", file, *words, err=unused(read(file), *words))
         value_of("run_rows", "run", file, *words, "--seeds", "1..2", "--set", "ways=1,2", "--set", "policy=random 7",
                  err=unused(read(file), *words))

@@ -7,7 +7,8 @@ A core with several accesses under way has as many stalls for want of a miss reg
 simulation counts, which is written here. What `run --script` prints is run by `lockup script`: its
 answers come to the counts of the report, and what waits behind each of its moves to the most and the
 mean of registers and targets. What `run --page` prints is that script's page. What `run --json` prints
-has each number of the tables under its name."""
+has each number of the tables under its name. Where slices make deliveries behind each access, the moves
+that delivered are the script's deliveries that were answered so."""
 import csv
 import json
 import tempfile
@@ -97,8 +98,8 @@ def unused(text: str, *words: str) -> str:
     given = words[words.index("--outstanding") + 1] if "--outstanding" in words else None
     told = []
     for number, line in enumerate(lines, 1):
-        if line[:1] == ["outstanding"] and given:
-            told.append(f"lockup: line {number}: outstanding changes nothing: --outstanding stands in its place\n")
+        if line and line[0] in ("outstanding", "pace") and f"--{line[0]}" in words:
+            told.append(f"lockup: line {number}: {line[0]} changes nothing: --{line[0]} stands in its place\n")
         if line and line[0] in ("mshrs", "targets", "misses") and (given or said.get("outstanding", "1")) == "1":
             told.append(f"lockup: line {number}: {line[0]} changes nothing: each core has one access under way\n")
     return "".join(told)
@@ -161,6 +162,22 @@ def test_the_option_and_the_line() -> None:
     want(all("primary" not in row for row in ran_on(option)), "counted where no number is given")
 
 
+@each(lambda: [(f"{registers} registers", registers) for registers in (1, 2, 8)])
+def test_the_pace(_: str, registers: int) -> None:
+    """Behind each access its request and its data are delivered, so that none stalls. The option is the line, and stands
+    for it; 0 is as if none were given."""
+    option = parallel(registers, 8, 16)
+    line = option.replace("outstanding", "pace 2\noutstanding")
+    rows = ran_on(line)
+    same("misses and stalls", ["16", "0", "0", "0", "0", "0", "0", "0"], rows[-5][1:])
+    same("moves", [["moves", "delivered"], ["48", "32"]], rows[-2:])
+    same("the option", rows, ran_on(option, "--pace", "2"))
+    same("the option in place of the line", rows, ran_on(line.replace("pace 2", "pace 0"), "--pace", "2"))
+    none = ran_on(option, "--pace", "0")
+    same("none", ran_on(option), none[:-2])
+    want(none[-2] == ["moves", "delivered"] and int(none[-1][0]) > int(none[-1][1]), f"moves: {none[-1]}")
+
+
 def played(file: Path, *words: str) -> list[tuple[list[str], list[str]]]:
     """The script of a run: each command with its answer, both as words."""
     script = lockup("run", file, *words, "--script")
@@ -211,15 +228,21 @@ def test_report_as_json(name: str) -> None:
 
 @each(names)
 def test_schedule(name: str) -> None:
-    for words in ((), ("--seed", "7"), ("--outstanding", "4")):
-        counts, count = report_of(FOLDER / f"{name}.txt", *words)["all"], Counter()
+    for words in ((), ("--seed", "7"), ("--outstanding", "4"), ("--pace", "1"), ("--outstanding", "8", "--pace", "3")):
+        counts, count, blocked = report_of(FOLDER / f"{name}.txt", *words)["all"], Counter(), 0
         for command, answer in played(FOLDER / f"{name}.txt", *words):
-            count[command[1] if command[0] == "deliver" else command[0], answer[0]] += 1
+            count[command[1] if command[0] == "deliver" else command[0], answer[0]] += answer[0] != "blocked"
+            blocked += answer[0] == "blocked"
         wanted = {(kind, "moved"): counts[KEYS[kind]] for kind in ("req", "fwd", "data", "ack", "home")}
         wanted["issue", "done"] = counts["hits"]
         wanted["issue", "pending"] = wanted["hand", "receipt"] = counts["misses"] + counts.get("misses_secondary", 0)
         wanted["issue", "stall"] = counts.get("stalls", 0)
-        same("answers", Counter(wanted), +count)
+        same("answers", +Counter(wanted), +count)
+        if "--pace" in words:
+            moved = sum(number for (_, answer), number in count.items() if answer == "moved")
+            same("moves that delivered", moved, counts["moves_delivered"])
+        else:
+            same("blocked deliveries", 0, blocked)
 
 
 @each(lambda: ["ping_pong", "parallel_misses"])

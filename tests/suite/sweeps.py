@@ -24,9 +24,11 @@ BEFORE = "# two cores, one line\n\ncores 2\nways 1\n\n"
 SIZES = {"matmul": 6, "histogram": 9, "ring": 20, "lock": 5, "chase": 33, "uniform": 40, "zipf": 40, "stencil": 7}
 # what a text has that says nothing of it
 DEFAULTS = {"cores": "2", "slices": "1", "lines": "16", "sets": "4", "ways": "2", "mshrs": "4", "targets": "4",
-            "writebacks": "2", "policy": "lru", "miss_file": "explicit", "exclusive": "off", "outstanding": ""}
+            "writebacks": "2", "policy": "lru", "miss_file": "explicit", "exclusive": "off", "outstanding": "", "pace": ""}
 COUNTS = list(KEYS.values())
-FURTHER_COUNTS = [*FURTHER.values(), "moves", "registers_most", "registers_sum", "targets_most", "targets_sum"]
+FURTHER_COUNTS = [*FURTHER.values(), "moves", "moves_delivered", "registers_most", "registers_sum", "targets_most",
+                  "targets_sum"]
+MESSAGES = [name for name in COUNTS if name.startswith("messages_")]
 COLUMNS = ["program", *DEFAULTS, "seed", *COUNTS, *FURTHER_COUNTS]
 WORDS = ("policy", "miss_file", "exclusive")
 REFUSED = {
@@ -45,6 +47,9 @@ REFUSED = {
     "--set outstanding=1,65": "--set outstanding: '65' is none of its values",
     "--set outstanding=0": "--set outstanding: '0' is none of its values",
     "--set outstanding=2 --outstanding 3": "--set outstanding: given twice",
+    "--set pace=0,65": "--set pace: '65' is none of its values",
+    "--set pace=00": "--set pace: '00' is none of its values",
+    "--set pace=2 --pace 3": "--set pace: given twice",
     "--set counter=8": "--set counter: its lines add up, so none replaces another",
     "--set slices=1,2 --set lines=9 --seeds 3..4": "slices=2 lines=9 seed 3: config 3 Lines",
     "--set cores=1": "cores=1 seed 1: line 11: out of range",
@@ -73,7 +78,8 @@ def value_of(name: str, cell: str) -> object:
 
 def row_of(file: str, settings: dict[str, str], seed: str, counts: dict[str, int]) -> dict[str, str]:
     """The row of a text with these settings, where its run counts so much."""
-    cells = {"program": file, **DEFAULTS, **settings, "seed": seed}
+    delivered = sum(counts[name] for name in MESSAGES)
+    cells = {"program": file, **DEFAULTS, **settings, "seed": seed, "moves_delivered": str(delivered)}
     return {name: cells[name] if name in cells else str(counts.get(name, "")) for name in COLUMNS}
 
 
@@ -100,10 +106,11 @@ def test_rows() -> None:
 def test_each_setting_has_a_column() -> None:
     """The text says another value of each than a text that says nothing, and the command line a third."""
     lines = {"cores": "3", "slices": "2", "lines": "24", "sets": "2", "ways": "3", "mshrs": "2", "targets": "3",
-             "writebacks": "1", "policy": "fifo", "misses": "inverted", "exclusive": "on", "outstanding": "5"}
+             "writebacks": "1", "policy": "fifo", "misses": "inverted", "exclusive": "on", "outstanding": "5",
+             "pace": "3"}
     others = {"cores": "4", "slices": "4", "lines": "32", "sets": "8", "ways": "1", "mshrs": "1", "targets": "2",
               "writebacks": "3", "policy": "random 18446744073709551615", "misses": "explicit", "exclusive": "off",
-              "outstanding": "7"}
+              "outstanding": "7", "pace": "0"}
     text = "".join(f"{name} {value}\n" for name, value in lines.items()) + "core 0\nload 0..99\ncore 2\nadd 9 1\n"
     with tempfile.TemporaryDirectory() as room:
         file = str(write(f"{room}/text", text))
@@ -163,29 +170,45 @@ def test_accesses_under_way() -> None:
             same("rows", wanted, rows)
 
 
+def test_the_pace() -> None:
+    """The setting is the option, whatever the text says, with and without accesses under way."""
+    with tempfile.TemporaryDirectory() as room:
+        for line in "", "pace 9\n":
+            text = str(write(f"{room}/text", TEXT.replace("\ncore 0", f"\n{line}core 0", 1)))
+            for words in (), ("--outstanding", "4"):
+                rows = rows_of(text, *words, "--set", "pace=0,1,64", "--csv")
+                wanted = []
+                for pace in "0", "1", "64":
+                    counts = counts_of(TEXT, *words, "--pace", pace)
+                    settings = {"ways": "1", "outstanding": "4" if words else "", "pace": pace}
+                    wanted.append(row_of(text, settings, "1", counts))
+                    want(counts["moves_delivered"] == sum(counts[name] for name in MESSAGES), "moves that delivered")
+                same("rows", wanted, rows)
+
+
 def test_rows_by_hand() -> None:
     # One core loads a word twice: a cold miss and a hit, with one request and one block.
-    head = ("program,cores,slices,lines,sets,ways,mshrs,targets,writebacks,policy,miss_file,exclusive,outstanding,seed,"
+    head = ("program,cores,slices,lines,sets,ways,mshrs,targets,writebacks,policy,miss_file,exclusive,outstanding,pace,seed,"
             "requests,hits,misses,misses_cold,misses_replaced,misses_upgrade,misses_true_sharing,misses_false_sharing,"
             "evictions,messages_request,messages_forwarded,messages_data,messages_acknowledgement,messages_home,"
             "misses_primary,misses_secondary,stalls,stalls_register,stalls_target,stalls_way,stalls_write_back_full,"
-            "stalls_write_back_busy,moves,registers_most,registers_sum,targets_most,targets_sum\n")
+            "stalls_write_back_busy,moves,moves_delivered,registers_most,registers_sum,targets_most,targets_sum\n")
     with tempfile.TemporaryDirectory() as room:
         text = str(write(f"{room}/text", "core 0\nload 0\nload 0\n"))
         ran = lockup("run", text, "--set", "ways=2,1", "--seeds", "7..8")
-        rows = "".join(f"{text},2,1,16,4,{ways},4,4,2,lru,explicit,off,,{seed},2,1,1,1,0,0,0,0,0,1,0,1,0,0,,,,,,,,,,,,,\n"
+        rows = "".join(f"{text},2,1,16,4,{ways},4,4,2,lru,explicit,off,,,{seed},2,1,1,1,0,0,0,0,0,1,0,1,0,0,,,,,,,,,,2,,,,\n"
                        for ways in (2, 1) for seed in (7, 8))
         same("rows", (0, "", head + rows), (ran.status, ran.err, ran.out))
         # Where the second may wait with the first, the register is open while two or three moves are made.
         ran = lockup("run", text, "--outstanding", "1", "--csv")
-        row = f"{text},2,1,16,4,2,4,4,2,lru,explicit,off,1,1,2,1,1,1,0,0,0,0,0,1,0,1,0,0,1,0,0,0,0,0,0,0,4,1,2,1,2\n"
+        row = f"{text},2,1,16,4,2,4,4,2,lru,explicit,off,1,,1,2,1,1,1,0,0,0,0,0,1,0,1,0,0,1,0,0,0,0,0,0,0,4,2,1,2,1,2\n"
         same("one row", (0, "", head + row), (ran.status, ran.err, ran.out))
         ran = lockup("run", text, "--json", "--seeds", "4")
         row = ('"cores":2,"slices":1,"lines":16,"sets":4,"ways":2,"mshrs":4,"targets":4,"writebacks":2,"policy":"lru",'
-               '"miss_file":"explicit","exclusive":"off","outstanding":null,"seed":4,"requests":2,"hits":1,"misses":1,'
+               '"miss_file":"explicit","exclusive":"off","outstanding":null,"pace":null,"seed":4,"requests":2,"hits":1,"misses":1,'
                '"misses_cold":1,"misses_replaced":0,"misses_upgrade":0,"misses_true_sharing":0,"misses_false_sharing":0,'
                '"evictions":0,"messages_request":1,"messages_forwarded":0,"messages_data":1,"messages_acknowledgement":0,'
-               '"messages_home":0,' + ",".join(f'"{name}":null' for name in FURTHER_COUNTS))
+               '"messages_home":0,' + ",".join(f'"{name}":{2 if name == "moves_delivered" else "null"}' for name in FURTHER_COUNTS))
         same("JSON", (0, "", f'[\n{{"program":"{text}",{row}}}\n]\n'), (ran.status, ran.err, ran.out))
 
 

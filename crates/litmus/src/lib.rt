@@ -13,8 +13,8 @@
 //!   are, which with [`Silent`] nobody sees. [`write_walk`] prints a round of such a schedule as a script, and
 //!   [`page_walk`] as that script's page.
 //! - [`run_programs`] runs programs on a random schedule, and reports what each core and each line met.
-//!   [`write_schedule`] prints that schedule as a script, and [`page_schedule`] as that script's page. [`run_sweep`]
-//!   runs them once for each row of a [`Sweep`], side by side, and prints the rows. [`write_workload`] prints the
+//!   [`write_schedule`] prints that schedule as a script, and [`page_schedule`] as that script's page; [`Limits`] bound
+//!   it. [`run_sweep`] runs them once for each row of a [`Sweep`], side by side, and prints the rows. [`write_workload`] prints the
 //!   programs of a workload.
 //! - [`check_trace`] judges a trace, and answers its [`Verdict`]; [`run_check`] writes what that comes to,
 //!   [`run_check_explained`] with what was expected of an entry at fault, and [`run_check_json`] both as JSON.
@@ -43,6 +43,7 @@ pub use program_run::{Form, run_programs, write_schedule};
 pub use program_sweep::{
     RowFault, RowForm, Seeds, Setting, Sweep, SweepFault, program_name, run_sweep,
 };
+pub use program_text::Limits;
 pub use script_explained::{run_beside, run_explained};
 pub use script_json::run_json;
 pub use script_page::run_page;

@@ -11,6 +11,7 @@ ghost use Rattle.program_text.specs.declared.programs.Programs.{Programs};
 use super::tests::write_walk;
 use litmus_text::TextFault;
 use program_run::write_schedule;
+use program_text::Limits;
 use script_page::run_page;
 use std::alloc::Global;
 use std::io::Write;
@@ -47,24 +48,24 @@ pub fn page_schedule<W: Write>(
     alloc: Global,
     head: Vec<u8>,
     input: &[u8],
-    outstanding: Option<u64>,
+    given: Limits,
     seed: u64,
     out: &mut W,
 ) -> Result<u8, TextFault>
     ensures done { IfOk result (λ status. (programs : Programs)
-        × IsProgramText input.now (settings_of programs) programs.outstanding (programs_of programs)
+        × IsProgramText input.now (settings_of programs) programs.limits (programs_of programs)
         × IsPageOfPrinted head.items
-        (PrintsSchedule (bound_of programs.misses programs.config) (limited_to outstanding programs) seed status)
+        (PrintsSchedule (bound_of programs.misses programs.config) (limited_to given programs) seed status)
         (W.contents out.old) (W.contents out.new)) }
     ensures fault { IfErr result (λ fault. IsProgramNotRun input.now fault
         ⊎ ((status : ℕ) × (programs : Programs)
-        × IsProgramText input.now (settings_of programs) programs.outstanding (programs_of programs)
+        × IsProgramText input.now (settings_of programs) programs.limits (programs_of programs)
         × IsPageCut head.items
-        (PrintsSchedule (bound_of programs.misses programs.config) (limited_to outstanding programs) seed status)
+        (PrintsSchedule (bound_of programs.misses programs.config) (limited_to given programs) seed status)
         fault)) }
 {
     let mut script = head;
-    match write_schedule(alloc, input, outstanding, seed, &mut script) {
+    match write_schedule(alloc, input, given, seed, &mut script) {
         Ok(status) => page_of(alloc, script.as_slice(), status, out),
         // writing to memory fails for want of it
         Err(TextFault::CannotWrite) => Err(TextFault::NoMemory),

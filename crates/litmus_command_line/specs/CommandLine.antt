@@ -80,6 +80,10 @@ positive_rule name = record (number_rule name) { parser = Some (value_parsers.Un
 abbrev pub few_rule : Text → Rule
 few_rule name = record (number_rule name) { parser = Some (value_parsers.Unsigned 1 64) }
 
+-- .. or none
+abbrev pub few_or_none_rule : Text → Rule
+few_or_none_rule name = record (number_rule name) { parser = Some (value_parsers.Unsigned 0 64) }
+
 -- an option that takes a number, which has this value where it is given none
 abbrev pub number_rule_or : Text → Text → Rule
 number_rule_or name value = record (number_rule name) { defaults = value ∷ [] }
@@ -115,8 +119,8 @@ lone_text_rule name = record (text_rule name) { is_free = false }
 abbrev pub run_app : App
 run_app =
     with_rules (new_app (codes "run"))
-    (file_rule ∷ few_rule (codes "outstanding") ∷ number_rule_or (codes "seed") (codes "1") ∷ flag_rule (codes "json")
-    ∷ settings_rule (codes "set") ∷ lone_text_rule (codes "seeds") ∷ lone_rule (codes "csv")
+    (file_rule ∷ few_rule (codes "outstanding") ∷ few_or_none_rule (codes "pace")
+    ∷ number_rule_or (codes "seed") (codes "1") ∷ flag_rule (codes "json") ∷ settings_rule (codes "set") ∷ lone_text_rule (codes "seeds") ∷ lone_rule (codes "csv")
     ∷ lone_rule (codes "script") ∷ lone_rule (codes "page") ∷ lone_rule (codes "explain") ∷ [])
 
 -- the argument that names a workload, which has to be there
@@ -327,14 +331,16 @@ IsLine name rows (command_lines.Walk file rounds seed limit script page json exp
     × IsNumberIfGiven (codes "limit") rows limit
     × (script ≡ is_given (codes "script") rows) × (page ≡ is_given (codes "page") rows)
     × (json ≡ is_given (codes "json") rows) × (explain ≡ is_given (codes "explain") rows)
-IsLine name rows (command_lines.Run file outstanding seed json script page explain) =
+IsLine name rows (command_lines.Run file outstanding pace seed json script page explain) =
     (name ≡ codes "run") × (first_of (codes "FILE") rows ≡ Some file.now)
-    × IsNumberIfGiven (codes "outstanding") rows outstanding × IsNumberOf (codes "seed") rows seed
+    × IsNumberIfGiven (codes "outstanding") rows outstanding × IsNumberIfGiven (codes "pace") rows pace
+    × IsNumberOf (codes "seed") rows seed
     × (json ≡ is_given (codes "json") rows) × (script ≡ is_given (codes "script") rows)
     × (page ≡ is_given (codes "page") rows) × (explain ≡ is_given (codes "explain") rows) × (is_swept rows ≡ false)
-IsLine name rows (command_lines.Sweep file outstanding seed seeds json) =
+IsLine name rows (command_lines.Sweep file outstanding pace seed seeds json) =
     (name ≡ codes "run") × (first_of (codes "FILE") rows ≡ Some file.now)
-    × IsNumberIfGiven (codes "outstanding") rows outstanding × IsNumberOf (codes "seed") rows seed
+    × IsNumberIfGiven (codes "outstanding") rows outstanding × IsNumberIfGiven (codes "pace") rows pace
+    × IsNumberOf (codes "seed") rows seed
     × (option_map (λ s. s.now) seeds ≡ first_of (codes "seeds") rows) × (json ≡ is_given (codes "json") rows)
     × (is_swept rows ≡ true)
 IsLine name rows (command_lines.Generate workload cores size seed) =

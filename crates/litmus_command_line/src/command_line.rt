@@ -62,12 +62,13 @@ pub enum CommandLine<'a> {
         json: bool,
         explain: bool,
     },
-    /// Run the programs in this file in the order that the seed draws, with so many accesses of a core under way, if a
-    /// number is given, and not as many as the text says. With `json`, report as a value of JSON. With `script`, print
+    /// Run the programs in this file in the order that the seed draws, with so many accesses of a core under way and so many
+    /// deliveries of each slice behind an access, if a number is given, and not as many as the text says. With `json`, report as a value of JSON. With `script`, print
     /// what was asked of the machine as a script, and with `page` as that script's page, and no report.
     Run {
         file: &'a str,
         outstanding: Option<u64>,
+        pace: Option<u64>,
         seed: u64,
         json: bool,
         script: bool,
@@ -79,6 +80,7 @@ pub enum CommandLine<'a> {
     Sweep {
         file: &'a str,
         outstanding: Option<u64>,
+        pace: Option<u64>,
         seed: u64,
         seeds: Option<&'a str>,
         json: bool,
@@ -294,6 +296,7 @@ fn run_line<'a>(given: &ArgMatches<'a>) -> Option<CommandLine<'a>>
 {
     let file = file_of(given)?;
     let outstanding = number_if_given(given, "outstanding")?;
+    let pace = number_if_given(given, "pace")?;
     let seed = number_of(given, "seed")?;
     let json = is_given(given, "json");
     if !is_swept(given) {
@@ -303,6 +306,7 @@ fn run_line<'a>(given: &ArgMatches<'a>) -> Option<CommandLine<'a>>
         return Some(CommandLine::Run {
             file,
             outstanding,
+            pace,
             seed,
             json,
             script,
@@ -314,6 +318,7 @@ fn run_line<'a>(given: &ArgMatches<'a>) -> Option<CommandLine<'a>>
     Some(CommandLine::Sweep {
         file,
         outstanding,
+        pace,
         seed,
         seeds,
         json,

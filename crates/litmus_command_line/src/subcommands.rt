@@ -15,6 +15,7 @@ ghost use Rattle.litmus_command_line.specs.CommandLine.{
   chart_app,
   check_app,
   cores_rule,
+  few_or_none_rule,
   few_rule,
   file_rule,
   flag_rule,
@@ -374,6 +375,14 @@ fn run<'a>(alloc: Global) -> Result<Command<'a>, AllocError>
     );
     let command = and(
         command,
+        few_or_none(
+            alloc,
+            "pace",
+            "How many deliveries each slice makes behind an access, and not as the text says",
+        ),
+    );
+    let command = and(
+        command,
         number_or(
             alloc,
             "seed",
@@ -624,6 +633,13 @@ fn few<'a>(alloc: Global, name: &'a str, help: &'a str) -> Arg<'a>
     ensures { HasRule (few_rule name.entry.now) result }
 {
     number(alloc, name, help).value_parser(ValueParser::unsigned(1, 64))
+}
+
+/// .. or none.
+fn few_or_none<'a>(alloc: Global, name: &'a str, help: &'a str) -> Arg<'a>
+    ensures { HasRule (few_or_none_rule name.entry.now) result }
+{
+    number(alloc, name, help).value_parser(ValueParser::unsigned(0, 64))
 }
 
 /// An option with a number, which is this one where none is given.

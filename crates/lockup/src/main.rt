@@ -10,7 +10,7 @@ use clap::Error;
 use clap::error::ErrorKind;
 use head::head_of;
 use litmus::{
-    CommandLine, Form, OutcomeForm, ScriptForm, Seeds, Size, SweepFault, TextKind, hint,
+    CommandLine, Form, Limits, OutcomeForm, ScriptForm, Seeds, Size, SweepFault, TextKind, hint,
     line_count, page_schedule, page_walk, read_line, run_beside, run_chart, run_check,
     run_check_explained, run_check_json, run_explained, run_export, run_json, run_litmus_as,
     run_page, run_programs, run_queries, run_script, run_svg, run_table, run_table_cells, run_test,
@@ -108,16 +108,14 @@ where
             CommandLine::Sweep {
                 file,
                 outstanding,
+                pace,
                 seed,
                 seeds,
                 json,
             },
         ) => {
-            let rows = Rows {
-                file,
-                outstanding,
-                json,
-            };
+            let limits = Limits { outstanding, pace };
+            let rows = Rows { file, limits, json };
             rows::run(rt, people, words, seeds_of(seed, seeds), rows)
         }
         Ok(
@@ -217,7 +215,11 @@ where
     R: AllocGlobal + Eprint,
 {
     match line {
-        CommandLine::Run { outstanding, .. } => tell_unused(rt, people, input, outstanding),
+        CommandLine::Run {
+            outstanding,
+            pace,
+            ..
+        } => tell_unused(rt, people, input, Limits { outstanding, pace }),
         CommandLine::Test { explain: true, .. } if status == REFUSED => {
             complain(rt, people, format_args!("{NO_TEST}   {HOW_TO_WANT}"));
         }
@@ -405,28 +407,33 @@ where
         }
         CommandLine::Run {
             outstanding,
+            pace,
             seed,
             script: true,
             ..
-        } => write_schedule(alloc, input, outstanding, seed, out),
+        } => write_schedule(alloc, input, Limits { outstanding, pace }, seed, out),
         CommandLine::Run {
             file,
             outstanding,
+            pace,
             seed,
             page: true,
             ..
         } => {
             let head = head_of(alloc, file, seed)?;
-            page_schedule(alloc, head, input, outstanding, seed, out)
+            let limits = Limits { outstanding, pace };
+            page_schedule(alloc, head, input, limits, seed, out)
         }
         CommandLine::Run {
             outstanding,
+            pace,
             seed,
             json,
             ..
         } => {
             let form = report_form(json);
-            run_programs(alloc, input, outstanding, seed, form, shown, out)
+            let limits = Limits { outstanding, pace };
+            run_programs(alloc, input, limits, seed, form, shown, out)
         }
         // These are printed by `rows::run` and `workload::run`.
         CommandLine::Sweep { .. } | CommandLine::Generate { .. } => Ok(REFUSED),

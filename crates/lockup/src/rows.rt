@@ -3,7 +3,9 @@
 use super::progress::{Counted, Shown};
 use super::unused::tell_unused_settings;
 use super::{People, complain, read, report, show};
-use litmus::{RowFault, RowForm, Seeds, Sweep, SweepFault, program_name, read_settings, run_sweep};
+use litmus::{
+    Limits, RowFault, RowForm, Seeds, Sweep, SweepFault, program_name, read_settings, run_sweep,
+};
 use litmus_text::TextFault;
 use std::alloc::Global;
 use std::io::{self, BufWriter, Write};
@@ -14,7 +16,7 @@ use std::thread::Threads;
 #[derive(Clone, Copy)]
 pub struct Rows<'a> {
     pub file: &'a str,
-    pub outstanding: Option<u64>,
+    pub limits: Limits,
     pub json: bool,
 }
 
@@ -46,7 +48,7 @@ fn run_settings<R>(
 where
     R: Files + Input + AllocGlobal + Print + Eprint + Threads + Sync,
 {
-    match read_sweep(rt.alloc(), settings, seeds, rows.outstanding) {
+    match read_sweep(rt.alloc(), settings, seeds, rows.limits) {
         Ok(sweep) => read_and_run(rt, people, &sweep, rows),
         Err(fault) => {
             complain(rt, people, fault);
@@ -78,7 +80,7 @@ where
     match print_rows(rt, people, input, sweep, rows.file, form) {
         Ok(()) => {
             let settings = sweep.settings.as_slice();
-            tell_unused_settings(rt, people, input, settings, rows.outstanding);
+            tell_unused_settings(rt, people, input, settings, rows.limits);
             0
         }
         Err(fault) => complain_of(rt, people, sweep, fault),
@@ -89,9 +91,9 @@ fn read_sweep<'a>(
     alloc: Global,
     settings: &[&'a str],
     seeds: Result<Seeds, SweepFault<'a>>,
-    outstanding: Option<u64>,
+    limits: Limits,
 ) -> Result<Sweep<'a>, SweepFault<'a>> {
-    Sweep::read(alloc, settings, seeds?, outstanding)
+    Sweep::read(alloc, settings, seeds?, limits)
 }
 
 /// Prints the rows, also those before a fault.

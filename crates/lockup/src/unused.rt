@@ -1,7 +1,7 @@
 //! Lines of a text of programs that change nothing of its run, and settings of a sweep that change nothing of its runs.
 
 use super::{People, complain};
-use litmus::Setting;
+use litmus::{Limits, Setting};
 use litmus_text::{Lines, Words, parse_number, value_named};
 
 /// What bounds the accesses of a core that wait. Where one is under way at a time, none finds a bound.
@@ -13,15 +13,17 @@ static BOUNDS: [(&[u8], &str); 3] = [
 
 static OUTSTANDING: [(&[u8], ()); 1] = [(b"outstanding", ())];
 
+static PACE: [(&[u8], ()); 1] = [(b"pace", ())];
+
 static CORE: [(&[u8], ()); 1] = [(b"core", ())];
 
 /// Why what bounds waiting accesses changes nothing.
 const SINGLE: &str = "each core has one access under way";
 
 /// Tells on standard error which lines of a text that was run changed nothing: those that bound what waits of a core,
-/// where it has one access under way at a time, and an `outstanding` in whose place another number was given.
-pub fn tell_unused<R: Eprint>(rt: &R, people: People, input: &[u8], given: Option<u64>) {
-    let is_single = is_single(input, given);
+/// where it has one access under way at a time, and an `outstanding` or a `pace` in whose place another number was given.
+pub fn tell_unused<R: Eprint>(rt: &R, people: People, input: &[u8], given: Limits) {
+    let is_single = is_single(input, given.outstanding);
     let mut number: u64 = 0;
     for line in Lines::of(input) {
         number = number.saturating_add(1);
@@ -31,7 +33,7 @@ pub fn tell_unused<R: Eprint>(rt: &R, people: People, input: &[u8], given: Optio
         if value_named(&CORE, word).is_some() {
             return;
         }
-        if given.is_some() && value_named(&OUTSTANDING, word).is_some() {
+        if given.is_limited() && value_named(&OUTSTANDING, word).is_some() {
             tell(
                 rt,
                 people,
@@ -39,6 +41,9 @@ pub fn tell_unused<R: Eprint>(rt: &R, people: People, input: &[u8], given: Optio
                 "outstanding",
                 "--outstanding stands in its place",
             );
+        }
+        if given.is_paced() && value_named(&PACE, word).is_some() {
+            tell(rt, people, number, "pace", "--pace stands in its place");
         }
         if is_single {
             tell_bound(rt, people, number, word);
@@ -53,13 +58,13 @@ pub fn tell_unused_settings<R: Eprint>(
     people: People,
     input: &[u8],
     settings: &[Setting<'_>],
-    given: Option<u64>,
+    given: Limits,
 ) {
     if varies_outstanding(settings) {
         return;
     }
     tell_unused(rt, people, input, given);
-    if !is_single(input, given) {
+    if !is_single(input, given.outstanding) {
         return;
     }
     for setting in settings {

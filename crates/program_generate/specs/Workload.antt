@@ -7,7 +7,7 @@ use Rattle.program_text.specs.declared.programs.Programs.{Programs}
 -- the text is one of programs
 pub record IsWorkload (text : List ℕ) : Type 0 where
   pub programs : Programs
-  pub says : IsProgramText text (settings_of programs) programs.outstanding (programs_of programs)
+  pub says : IsProgramText text (settings_of programs) programs.limits (programs_of programs)
 
 -- such a text is written
 pub record IsPrinted (before after : Option (List ℕ)) : Type 0 where

@@ -74,7 +74,7 @@ waiting-line v line (Some local) (one ∷ shown) channel at are first =
 -- ---- the ring
 
 -- a slice that was reached has some of a machine's lines
-machine_of : (p : PartsView) → Holds p → IsOfMachine p.view.lines
+pub machine_of : (p : PartsView) → Holds p → IsOfMachine p.view.lines
 unfolding Rattle.slice_core.specs.Facts.IsReached
 machine_of p holds = holds.reached.addressed.machine
 
@@ -97,14 +97,14 @@ line-named own line local =
     by false here names is = absurd (cc is)
 
 -- a line stands at one place
-same-place : (own : Lines) (l found : Local) → IsOfMachine own → local_at own (line_at own l).0 ≡ Some found
+pub same-place : (own : Lines) (l found : Local) → IsOfMachine own → local_at own (line_at own l).0 ≡ Some found
     → found ≡ l
 same-place own l found machine is =
     let same : found.0 ≡ l.0 = sym (one_line own machine l found (line-named own (line_at own l) found is)) in
     ap (λ n. record { 0 = n }) same
 
 -- what stands at a place of the ring
-in-ring : {X Y : Type 0} (f : X → Y) (xs : List X) (i : ℕ) (y : Y) → slice_get (map f xs) i ≡ Some y
+pub in-ring : {X Y : Type 0} (f : X → Y) (xs : List X) (i : ℕ) (y : Y) → slice_get (map f xs) i ≡ Some y
     → (x : X) × (slice_get xs i ≡ Some x) × (y ≡ f x)
 in-ring f [] i y is = absurd (cc is)
 in-ring f (x ∷ xs) zero y is = (x, refl, cc is)
@@ -115,7 +115,7 @@ past-ring f [] i is = omega arith
 past-ring f (x ∷ xs) zero is = absurd (cc is)
 past-ring f (x ∷ xs) (suc i) is = let past = past-ring f xs i is in omega (arith, past)
 
-within-ring : {X : Type 0} (xs : List X) (i : ℕ) (x : X) → slice_get xs i ≡ Some x → i < length xs
+pub within-ring : {X : Type 0} (xs : List X) (i : ℕ) (x : X) → slice_get xs i ≡ Some x → i < length xs
 within-ring [] i x is = absurd (cc is)
 within-ring (y ∷ xs) zero x is = omega arith
 within-ring (y ∷ xs) (suc i) x is = let within = within-ring xs i x is in omega (arith, within)

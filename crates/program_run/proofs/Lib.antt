@@ -5,6 +5,7 @@ pub mod FrontLemmas
 pub mod KeptLemmas
 pub mod MoveLemmas
 pub mod Names
+pub mod OwedLemmas
 pub mod PerformedLemmas
 pub mod RegisterLemmas
 pub mod RunLemmas

@@ -55,7 +55,7 @@ each_more f before now new xs i d within so_far grown =
     ∙ ap (λ these. before ++ flat_map f these) (sym (take_more xs i d within))
 
 -- what stands at a place of a list
-at-place : {X : Type 0} (xs : List X) (i : ℕ) → i < length xs → (x : X) × (slice_get xs i ≡ Some x)
+pub at-place : {X : Type 0} (xs : List X) (i : ℕ) → i < length xs → (x : X) × (slice_get xs i ≡ Some x)
 at-place [] i below = absurd (omega (arith, below))
 at-place (x ∷ xs) zero below = (x, refl)
 at-place (x ∷ xs) (suc i) below = at-place xs i (omega (arith, below))

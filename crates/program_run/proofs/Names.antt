@@ -32,3 +32,4 @@ name_right columns.NoTarget = refl
 name_right columns.NoWay = refl
 name_right columns.WriteBackFull = refl
 name_right columns.WriteBackBusy = refl
+name_right columns.Delivered = refl

@@ -32,8 +32,8 @@ has_no_next cores most (Some program) (Some place) waits =
 -- so it asks for nothing
 pub a_waiting_program_asks_nothing : (config : Config) (programs : Programs) (slices : List PartsView)
     (places : List Place) (number : ℕ)
-    → ((step : Step) → may_step_at programs.outstanding (slice_get places number) step ≡ false)
+    → ((step : Step) → may_step_at programs.limits.outstanding (slice_get places number) step ≡ false)
     → may_ask config programs slices places number ≡ false
 a_waiting_program_asks_nothing config programs slices places number waits =
-    rw (has_no_next config.cores programs.outstanding (slice_get programs.cores.items number)
+    rw (has_no_next config.cores programs.limits.outstanding (slice_get programs.cores.items number)
     (slice_get places number) waits) refl

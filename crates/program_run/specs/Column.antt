@@ -3,7 +3,7 @@ use Rattle.std.specs.Prelude.{ℕ, Bool, true, false, List, [], ◌∷◌, ◌++
 use Rattle.program_run.specs.declared.column.Column.{Column}
 use Rattle.program_run.specs.declared.column.Column.TheVariants as columns
 use Rattle.program_run.specs.declared.tally.Counts.{Counts}
-use Rattle.program_run.specs.Tally.{misses_of, requests_of, stalls_of}
+use Rattle.program_run.specs.Tally.{delivered_of, misses_of, requests_of, stalls_of}
 
 -- the columns of a core, in their order
 abbrev pub core_columns : List Column
@@ -32,6 +32,10 @@ abbrev pub columns_of_all : Bool → List Column
 columns_of_all false = line_columns
 columns_of_all true = line_columns ++ parallel_columns
 
+-- what is counted of a run where it is said how many deliveries each slice makes
+abbrev pub pace_columns : List Column
+pace_columns = columns.Delivered ∷ []
+
 -- what the heading says of a column
 abbrev pub name_of : Column → List ℕ
 name_of columns.Requests = codes "requests"
@@ -56,6 +60,7 @@ name_of columns.NoTarget = codes "target"
 name_of columns.NoWay = codes "way"
 name_of columns.WriteBackFull = codes "wb-full"
 name_of columns.WriteBackBusy = codes "wb-busy"
+name_of columns.Delivered = codes "delivered"
 
 -- what it is called in JSON and in rows
 abbrev pub key_of : Column → List ℕ
@@ -81,6 +86,7 @@ key_of columns.NoTarget = codes "stalls_target"
 key_of columns.NoWay = codes "stalls_way"
 key_of columns.WriteBackFull = codes "stalls_write_back_full"
 key_of columns.WriteBackBusy = codes "stalls_write_back_busy"
+key_of columns.Delivered = codes "moves_delivered"
 
 -- what a column shows
 abbrev pub count_in : Column → Counts → ℕ
@@ -106,3 +112,4 @@ count_in columns.NoTarget counts = counts.no_target
 count_in columns.NoWay counts = counts.no_way
 count_in columns.WriteBackFull counts = counts.write_back_full
 count_in columns.WriteBackBusy counts = counts.write_back_busy
+count_in columns.Delivered counts = delivered_of counts

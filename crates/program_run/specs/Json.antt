@@ -5,10 +5,12 @@ use Rattle.json_text.specs.List.{with_commas}
 use Rattle.json_text.specs.Number.{number_of}
 use Rattle.program_run.specs.declared.column.Column.{Column}
 use Rattle.program_run.specs.declared.tally.Counts.{Counts}
-use Rattle.program_run.specs.Column.{columns_of_all, columns_of_core, count_in, key_of, line_columns}
+use Rattle.program_run.specs.Column.{columns_of_all, columns_of_core, count_in, key_of, line_columns, pace_columns}
 use Rattle.program_run.specs.Tally.{TallyView, counts_at, requests_of, totals_of}
 use Rattle.program_run.specs.Usage.{no_usage, usage_at, usage_of_all}
 use Rattle.program_run.specs.declared.usage.Usage.{Usage}
+use Rattle.program_text.specs.Judged.{is_limited as is_said}
+use Rattle.program_text.specs.declared.programs.Limits.{Limits}
 
 -- what a column shows, under its key
 abbrev pub member_of : Counts → Column → List ℕ
@@ -27,6 +29,16 @@ usage_members true usage =
     ++ (codes ",\"registers_sum\":" ++ (number_of usage.sum_registers
     ++ (codes ",\"targets_most\":" ++ (number_of usage.most_targets
     ++ (codes ",\"targets_sum\":" ++ number_of usage.sum_targets))))))))
+
+-- how many moves there were, where that isn't said already
+abbrev pub moves_member : Bool → ℕ → List ℕ
+moves_member true moves = []
+moves_member false moves = codes ",\"moves\":" ++ number_of moves
+
+-- how many there were of a run, and how many of them delivered, where it is said how many deliveries each slice makes
+abbrev pub pace_members : Bool → Bool → ℕ → Counts → List ℕ
+pace_members is_limited false moves all = []
+pace_members is_limited true moves all = moves_member is_limited moves ++ codes "," ++ members_of pace_columns all
 
 -- the object of a core
 abbrev pub core_object : Bool → ℕ → Counts → Usage → List ℕ
@@ -62,10 +74,13 @@ abbrev pub line_objects_of : List Counts → List ℕ
 line_objects_of lines = with_commas (objects_of_lines lines (range_with_len 0 (length lines)))
 
 -- the whole value, in one line
-abbrev pub json_of : TallyView → List Usage → Bool → ℕ → List ℕ
-json_of tally usages is_limited seed =
+abbrev pub json_of : TallyView → List Usage → Limits → ℕ → List ℕ
+json_of tally usages limits seed =
     codes "{\"seed\":" ++ (number_of seed ++ codes ",\"cores\":[")
-    ++ core_objects_of is_limited tally.cores usages
+    ++ core_objects_of (is_said limits.outstanding) tally.cores usages
     ++ codes "],\"lines\":[" ++ line_objects_of tally.lines
-    ++ codes "],\"all\":{" ++ members_of (columns_of_all is_limited) (totals_of tally.lines)
-    ++ usage_members is_limited (usage_of_all no_usage usages) ++ codes "}}\n"
+    ++ codes "],\"all\":{" ++ members_of (columns_of_all (is_said limits.outstanding)) (totals_of tally.lines)
+    ++ usage_members (is_said limits.outstanding) (usage_of_all no_usage usages)
+    ++ pace_members (is_said limits.outstanding) (is_said limits.pace) (usage_of_all no_usage usages).moves
+    (totals_of tally.lines)
+    ++ codes "}}\n"

@@ -1,13 +1,16 @@
 -- The report: the seed, a table of the cores, and one of the lines that were asked for, which ends with the sums. Where
--- several accesses of a core may be under way, two further tables of the cores stand behind it.
+-- several accesses of a core may be under way, two further tables of the cores stand behind it, and at last how many moves
+-- delivered.
 use Rattle.std.specs.Prelude.{ℕ, ◌/◌, ◌%◌, ◌==◌, Bool, true, false, List, [], ◌++◌, codes, decimal, if◌then◌else◌, length}
 use Rattle.std.specs.List.{flat_map, range_with_len}
 use Rattle.stats_report.specs.Report.{right_in_10}
 use Rattle.program_run.specs.declared.column.Column.{Column}
 use Rattle.program_run.specs.declared.tally.Counts.{Counts}
-use Rattle.program_run.specs.Column.{core_columns, count_in, line_columns, name_of, parallel_columns}
+use Rattle.program_run.specs.Column.{core_columns, count_in, line_columns, name_of, pace_columns, parallel_columns}
 use Rattle.program_run.specs.Tally.{TallyView, counts_at, requests_of, totals_of}
-use Rattle.program_run.specs.Usage.{hundredths_of, usage_at, whole_of}
+use Rattle.program_run.specs.Usage.{hundredths_of, no_usage, usage_at, usage_of_all, whole_of}
+use Rattle.program_text.specs.Judged.{is_limited}
+use Rattle.program_text.specs.declared.programs.Limits.{Limits}
 use Rattle.program_run.specs.declared.usage.Usage.{Usage}
 
 -- the names of columns
@@ -65,11 +68,18 @@ line_row line counts = if requests_of counts == 0 then [] else row_of line line_
 abbrev pub line_rows : List Counts → List ℕ
 line_rows lines = flat_map (λ line. line_row line (counts_at lines line)) (range_with_len 0 (length lines))
 
+-- how many moves there were, and how many of them delivered, where it is said how many deliveries each slice makes
+abbrev pub pace_table : Bool → ℕ → Counts → List ℕ
+pace_table false moves all = []
+pace_table true moves all = heading_of (codes "     moves") pace_columns ++ row_of moves pace_columns all
+
 -- the whole report
-abbrev pub report_of : TallyView → List Usage → Bool → ℕ → List ℕ
-report_of tally usages is_limited seed =
+abbrev pub report_of : TallyView → List Usage → Limits → ℕ → List ℕ
+report_of tally usages limits seed =
     codes "seed " ++ decimal seed ++ codes "\n"
     ++ heading_of (codes "      core") core_columns ++ core_rows core_columns tally.cores
     ++ heading_of (codes "      line") line_columns ++ line_rows tally.lines
     ++ codes "       all" ++ counts_of line_columns (totals_of tally.lines) ++ codes "\n"
-    ++ parallel_table is_limited tally.cores ++ usage_table is_limited usages
+    ++ parallel_table (is_limited limits.outstanding) tally.cores
+    ++ usage_table (is_limited limits.outstanding) usages
+    ++ pace_table (is_limited limits.pace) (usage_of_all no_usage usages).moves (totals_of tally.lines)

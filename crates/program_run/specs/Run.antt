@@ -1,6 +1,8 @@
 -- A run of programs: what may come next, and what each move does to the machine, to where programs stand, and to what
 -- is seen.
 use Rattle.std.specs.Prelude.{◌≡◌, ◌⊎◌, ℕ, ◌-◌, ◌^◌, ◌+◌, ◌%◌, ◌==◌, nat_lt, not, Bool, true, false}
+use Rattle.std.specs.Prelude.{◌||◌, slice_index_or}
+use Rattle.std.specs.Option.{option_or}
 use Rattle.std.specs.Prelude.{if◌then◌else◌, List, [], ◌∷◌, ◌++◌, drop, length, map, filter, min, position, replicate}
 use Rattle.std.specs.Prelude.{slice_get, slice_set, codes, decimal, All, Option, None, Some}
 use Rattle.std.specs.Io.KnownBytes.{Appends}
@@ -10,6 +12,7 @@ use Rattle.address_map.specs.Locator.{local_at}
 use Rattle.address_map.specs.Place.{line_of}
 use Rattle.address_map.specs.declared.address.CoreId.{CoreId}
 use Rattle.address_map.specs.declared.address.LineAddr.{LineAddr}
+use Rattle.address_map.specs.declared.address.Local.{Local}
 use Rattle.address_map.specs.declared.config.Config.{Config}
 use Rattle.address_map.specs.declared.request.Request.{Request}
 use Rattle.litmus_script.specs.Issued.{IsIssued}
@@ -25,6 +28,7 @@ use Rattle.program_text.specs.Fault.{IsFault}
 use Rattle.program_text.specs.Judged.{is_limited}
 use Rattle.program_text.specs.declared.programs.Access.{Access}
 use Rattle.program_text.specs.declared.programs.CoreProgram.{CoreProgram}
+use Rattle.program_text.specs.declared.programs.Limits.{Limits}
 use Rattle.program_text.specs.declared.programs.Programs.{Programs}
 use Rattle.program_text.specs.declared.programs.Step.{Step}
 use Rattle.program_text.specs.declared.programs.Step.TheVariants as step_kinds
@@ -38,13 +42,15 @@ use Rattle.slice_answer.specs.declared.answer.Delivered.TheVariants as delivered
 use Rattle.slice_log.specs.declared.entry.Entry.{Entry}
 use Rattle.slice_core_plan.specs.Decision.{decision_of}
 use Rattle.slice_core_plan.specs.Calls.{PartsView, next_pick}
-use Rattle.slice_core_plan.specs.View.{IsQuiet}
+use Rattle.slice_core_plan.specs.Parts.{ring_lines}
+use Rattle.slice_core_plan.specs.View.{IsQuiet, View, channels_at}
 use Rattle.slice_core_plan.specs.declared.decision.Decision.{Decision}
 use Rattle.slice_core_plan.specs.declared.decision.Decision.TheVariants as decisions
 use Rattle.slice_core_cache.specs.declared.access.AccessKind.TheVariants as access_kinds
 use Rattle.slice_core_cache.specs.declared.access.Placement.TheVariants as placements
 use Rattle.slice_core_steps.specs.CoreLines.{last_written_back}
-use Rattle.slice_queues_message.specs.Pick.{channel_of, line_of as line_of_pick}
+use Rattle.slice_queues.specs.Waiting.{line_waiting}
+use Rattle.slice_queues_message.specs.Pick.{channel_of, line_of as line_of_pick, pick_at}
 use Rattle.slice_queues_message.specs.declared.channel.Class.TheVariants as classes
 use Rattle.slice_queues_message.specs.declared.channel.Pick.{Pick}
 use Rattle.slice_queues_message.specs.declared.message.Message.{Message}
@@ -119,7 +125,7 @@ next_by cores most (Some program) (Some place) =
 -- how the program of this number goes on, and its core
 abbrev pub next_of : ℕ → Programs → List Place → ℕ → Option (CoreId × Turn)
 next_of cores programs places number =
-    next_by cores programs.outstanding (slice_get programs.cores.items number) (slice_get places number)
+    next_by cores programs.limits.outstanding (slice_get programs.cores.items number) (slice_get places number)
 
 -- the slice of a request, by its number
 abbrev pub slice_of : Config → Request → ℕ
@@ -159,7 +165,7 @@ may_stall (Some most) (Some place) = not place.stalled
 -- the program of this number may take its next step
 abbrev pub may_ask : Config → Programs → List PartsView → List Place → ℕ → Bool
 may_ask config programs slices places number =
-    may_go_on config slices (may_stall programs.outstanding (slice_get places number))
+    may_go_on config slices (may_stall programs.limits.outstanding (slice_get places number))
     (next_of config.cores programs places number)
 
 -- the steps that may be taken, in the order of the programs
@@ -176,9 +182,70 @@ delivery_of next = []
 abbrev pub deliveries_of : List PartsView → List Move
 deliveries_of slices = flat_map (λ state. delivery_of (next_pick state classes.Any)) slices
 
--- What may come next.
-abbrev pub moves_of : Config → Programs → RunState → List Move
-moves_of config programs run = asks_of config programs run.slices run.places ++ deliveries_of run.slices
+-- the steps that may be taken, and the next delivery of each slice
+abbrev pub free_moves : Config → Programs → RunState → List Move
+free_moves config programs run = asks_of config programs run.slices run.places ++ deliveries_of run.slices
+
+-- ---- the pace
+
+-- the deliveries of the messages of a line, which stands at this place of the slice
+abbrev pub waiting_at : View → LineAddr → Option Local → List Move
+waiting_at v line None = []
+waiting_at v line (Some local) = map (λ channel. moves.Deliver (pick_at line channel)) (line_waiting (channels_at v local))
+
+abbrev pub waiting_of : View → LineAddr → List Move
+waiting_of v line = waiting_at v line (local_at v.lines line.0)
+
+-- all that a slice can be asked for, blocked or not, line by line of its ring
+abbrev pub waiting_in : PartsView → List Move
+waiting_in state = flat_map (waiting_of state.view) (ring_lines state)
+
+-- .. where it has so many still to make
+abbrev pub owed_in : ℕ → PartsView → List Move
+owed_in left state = if left == 0 then [] else waiting_in state
+
+-- these moves, or the others where there is none
+abbrev pub or_else : List Move → List Move → List Move
+or_else [] others = others
+or_else (move ∷ more) others = move ∷ more
+
+-- those of the first of these slices that has some
+abbrev pub owed_from : List ℕ → ℕ → List PartsView → List Move
+owed_from owed slice [] = []
+owed_from owed slice (state ∷ more) =
+    or_else (owed_in (slice_index_or owed slice 0) state) (owed_from owed (slice + 1) more)
+
+-- What may come next: a delivery of the first slice that has some still to make, and a message; and else any move.
+abbrev pub moves_of : Config → Programs → List ℕ → RunState → List Move
+moves_of config programs owed run = or_else (owed_from owed 0 run.slices) (free_moves config programs run)
+
+-- how many deliveries each slice makes behind an access: none, where no number is said
+abbrev pub pace_of : Option ℕ → ℕ
+pace_of None = 0
+pace_of (Some most) = most
+
+-- a program asks for an access
+abbrev pub is_ask : Turn → Bool
+is_ask (turns.Ask request) = true
+is_ask turns.Settled = false
+
+abbrev pub is_access : Option (CoreId × Turn) → Bool
+is_access None = false
+is_access (Some next) = is_ask next.1
+
+-- How many each slice has still to make behind a move: as many as the pace behind an access, and one less behind a
+-- delivery.
+abbrev pub owed_behind : Config → Programs → List Place → Move → List ℕ → List ℕ
+owed_behind config programs places (moves.Ask number) owed =
+    if is_access (next_of config.cores programs places number)
+    then map (λ left. pace_of programs.limits.pace) owed else owed
+owed_behind config programs places (moves.Deliver pick) owed =
+    let slice : ℕ = (line_of_pick pick).0 % config.slices in
+    slice_set owed slice (slice_index_or owed slice 0 - 1)
+
+-- at first there are none
+abbrev pub nothing_owed : Programs → List ℕ
+nothing_owed programs = replicate programs.config.slices 0
 
 -- ---- an access
 
@@ -363,11 +430,15 @@ Makes config programs (moves.Ask number) old new =
     Asks config number (next_of config.cores programs old.places number) old new
 Makes config programs (moves.Deliver pick) old new = Delivers config programs pick old new
 
+-- it is measured what is in use, and moves are counted, where something bounds the run
+abbrev pub is_measured : Limits → Bool
+is_measured limits = is_limited limits.outstanding || is_limited limits.pace
+
 -- what a core's accesses take up is measured
 abbrev pub measured_place : Place → Place
 measured_place place = record place { usage = measured place.registers place.waiting place.usage }
 
--- .. of each core, where it is said how many may be under way
+-- .. of each core
 abbrev pub measured_places : Bool → List Place → List Place
 measured_places false places = places
 measured_places true places = map measured_place places
@@ -379,22 +450,22 @@ measured_run limited run = record run { places = measured_places limited run.pla
 abbrev pub drawn_move : ℕ → List Move → Option Move
 drawn_move word moves = slice_get moves (word % length moves)
 
--- These moves are made behind so many others, one after another. Each is drawn from those that may come next, by the
--- next word of the generator that stands there; behind it, it is measured what is in use, where it is said how many
--- accesses may be under way, and rings are kept short.
-abbrev pub MakesAll : Config → Programs → List ℕ → ℕ → List Move → RunState → RunState → Type 0
-MakesAll config programs generator made [] old new = new ≡ old
-MakesAll config programs generator made (to ∷ more) old new =
-    (next : RunState) × (drawn_move (plus_plus generator).0 (moves_of config programs old) ≡ Some to)
+-- These moves are made behind so many others, where each slice has so many deliveries still to make, one after another.
+-- Each is drawn from those that may come next, by the next word of the generator that stands there; behind it, it is
+-- measured what is in use, and rings are kept short.
+abbrev pub MakesAll : Config → Programs → List ℕ → ℕ → List ℕ → List Move → RunState → RunState → Type 0
+MakesAll config programs generator made owed [] old new = new ≡ old
+MakesAll config programs generator made owed (to ∷ more) old new =
+    (next : RunState) × (drawn_move (plus_plus generator).0 (moves_of config programs owed old) ≡ Some to)
     × Makes config programs to old next × (tidied : List PartsView) × Tidies config.slices made next.slices tidied
-    × MakesAll config programs (plus_plus generator).1 (made + 1) more
-    (record (measured_run (is_limited programs.outstanding) next) { slices = tidied }) new
+    × MakesAll config programs (plus_plus generator).1 (made + 1) (owed_behind config programs old.places to owed) more
+    (record (measured_run (is_measured programs.limits) next) { slices = tidied }) new
 
 -- The moves that the seed draws are made, up to where none may come next, or 2^64 - 1 of them.
 pub record Runs (config : Config) (programs : Programs) (seed : ℕ) (old new : RunState) : Type 0 where
   pub steps : List Move
-  pub made : MakesAll config programs (of_seed (splitmix_seed 32 seed)) 0 steps old new
-  pub ended : (moves_of config programs new ≡ []) ⊎ (length steps ≡ 2 ^ 64 - 1)
+  pub made : MakesAll config programs (of_seed (splitmix_seed 32 seed)) 0 (nothing_owed programs) steps old new
+  pub ended : (free_moves config programs new ≡ []) ⊎ (length steps ≡ 2 ^ 64 - 1)
 
 -- a program before its first step
 abbrev pub first_place : Place
@@ -476,10 +547,10 @@ usage_of programs places core = by_number (position (λ program. program.core.0 
 abbrev pub usages_of : ℕ → Programs → List Place → List Usage
 usages_of cores programs places = map (usage_of programs.cores.items places) (range_with_len 0 cores)
 
--- the report in this form, by whether several accesses of a core may be under way
-abbrev pub text_of : Form → TallyView → List Usage → Bool → ℕ → List ℕ
-text_of forms.Table tally usages limited seed = report_of tally usages limited seed
-text_of forms.Json tally usages limited seed = json_of tally usages limited seed
+-- the report in this form, by what bounds the run
+abbrev pub text_of : Form → TallyView → List Usage → Limits → ℕ → List ℕ
+text_of forms.Table tally usages limits seed = report_of tally usages limits seed
+text_of forms.Json tally usages limits seed = json_of tally usages limits seed
 
 -- where nothing may come next before the end
 abbrev pub text_of_stuck : ℕ → List ℕ
@@ -490,7 +561,7 @@ pub record PrintsEnd (config : Config) (programs : Programs) (form : Form) (seed
     (before after : Option (List ℕ)) : Type 0 where
   pub over : IsOver programs run → (status ≡ 0)
       × Appends before after (text_of form (tally_after (new_tally config.cores config.lines) run.history.counted)
-      (usages_of config.cores programs run.places) (is_limited programs.outstanding) seed)
+      (usages_of config.cores programs run.places) programs.limits seed)
   pub stuck : ¬ IsOver programs run → (status ≡ 1) × Appends before after (text_of_stuck seed)
 
 -- The programs are run on a new machine by the moves that the seed draws, and what the run's end prints is written.
@@ -514,10 +585,14 @@ pub record PrintsSchedule (bound : Bound) (programs : Programs) (seed status : �
   pub stuck : ¬ IsOver programs end → status ≡ 1
   pub printed : Appends before after (text_of_script programs.config programs.misses end.calls.made)
 
--- so many accesses of a core may be under way, where a number is given
-abbrev pub limited_to : Option ℕ → Programs → Programs
-limited_to None programs = programs
-limited_to (Some most) programs = record programs { outstanding = Some most }
+-- what is given bounds the run, and not what the text says
+abbrev pub limited_to : Limits → Programs → Programs
+limited_to given programs = record programs {
+  limits = record {
+    outstanding = option_or given.outstanding programs.limits.outstanding;
+    pace = option_or given.pace programs.limits.pace;
+  };
+}
 
 -- Why no programs were run: the text is at fault, there was no memory, or the report couldn't be written.
 abbrev pub IsProgramNotRun : List ℕ → TextFault → Type 0

@@ -139,6 +139,13 @@ stalls_of counts =
     capped_sum
     (counts.no_register + counts.no_target + counts.no_way + counts.write_back_full + counts.write_back_busy)
 
+-- the messages delivered, of all kinds
+abbrev pub delivered_of : Counts → ℕ
+delivered_of counts =
+    capped_sum
+    (counts.messages.requests + counts.messages.forwarded + counts.messages.data_replies
+    + counts.messages.acknowledgements + counts.messages.home)
+
 -- two counts together
 abbrev pub counts_together : Counts → Counts → Counts
 counts_together one other = record {

@@ -1,6 +1,6 @@
 ghost use Rattle.std.specs.Prelude.{◌≡◌};
 ghost use Rattle.program_run.specs.Column.{columns_of_all, columns_of_core, core_columns, count_in, key_of, line_columns};
-ghost use Rattle.program_run.specs.Column.{name_of, parallel_columns};
+ghost use Rattle.program_run.specs.Column.{name_of, pace_columns, parallel_columns};
 
 use super::tally::Counts;
 
@@ -29,6 +29,7 @@ pub enum Column {
     NoWay,
     WriteBackFull,
     WriteBackBusy,
+    Delivered,
 }
 
 /// The columns of a line in their order, and behind them what is counted of all lines only where several accesses of a
@@ -83,6 +84,9 @@ static CORE_COLUMNS: [Column; 21] = [
     Column::WriteBackBusy,
 ];
 
+/// What is counted of a run where it is said how many deliveries each slice makes.
+static PACE_COLUMNS: [Column; 1] = [Column::Delivered];
+
 /// The columns of a core.
 pub(crate) fn core_columns() -> &'static [Column]
     ensures { result.now ≡ core_columns }
@@ -126,6 +130,13 @@ pub(crate) fn columns_of_all(is_limited: bool) -> &'static [Column]
     }
 }
 
+/// What is counted of a run where it is said how many deliveries each slice makes.
+pub(crate) fn pace_columns() -> &'static [Column]
+    ensures { result.now ≡ pace_columns }
+{
+    &PACE_COLUMNS
+}
+
 impl Column {
     /// What its heading says.
     pub fn name(self) -> &'static str
@@ -154,6 +165,7 @@ impl Column {
             Column::NoWay => "way",
             Column::WriteBackFull => "wb-full",
             Column::WriteBackBusy => "wb-busy",
+            Column::Delivered => "delivered",
         }
     }
 
@@ -184,6 +196,7 @@ impl Column {
             Column::NoWay => "stalls_way",
             Column::WriteBackFull => "stalls_write_back_full",
             Column::WriteBackBusy => "stalls_write_back_busy",
+            Column::Delivered => "moves_delivered",
         }
     }
 
@@ -213,6 +226,7 @@ impl Column {
             Column::NoWay => counts.no_way,
             Column::WriteBackFull => counts.write_back_full,
             Column::WriteBackBusy => counts.write_back_busy,
+            Column::Delivered => counts.delivered(),
         }
     }
 }

@@ -1,16 +1,17 @@
 //! The next delivery of a slice. Its ring may begin with lines in which nothing waits: they are looked at once, and
 //! then passed over.
-ghost use Rattle.std.specs.Prelude.{◌≡◌, ◌≢◌, ◌≤◌, ◌++◌, OnOk, Some, false};
+ghost use Rattle.std.specs.Prelude.{◌≡◌, ◌≢◌, ◌≤◌, ◌++◌, OnOk, Some, false, map};
 ghost use Rattle.address_map.specs.Locator.{local_at};
 ghost use Rattle.slice_core_plan.specs.Calls.{next_pick};
 ghost use Rattle.slice_queues_message.specs.declared.channel.Class.TheVariants as classes;
 ghost use Rattle.program_run.specs.Front.{HasIdleFront, IsApart, IsFront, IsLineFront, IsNextFrom, delivery_if};
-ghost use Rattle.program_run.specs.Run.{delivery_of};
+ghost use Rattle.program_run.specs.Run.{delivery_of, waiting_in, waiting_of};
+ghost use Rattle.slice_queues_message.specs.Pick.{pick_at};
 
 use super::moves::Move;
 use address_map::LineAddr;
 use mshr_file::MissFile;
-use slice_core::{Class, DeliveredNext, Delivery, Pick, SliceState};
+use slice_core::{Class, DeliveredNext, Delivery, LineWaiting, Pick, SliceState};
 use std::alloc::AllocError;
 
 /// What a look at a line finds.
@@ -47,8 +48,8 @@ fn next_from<F: MissFile>(state: &SliceState<F>, pick: Pick) -> Option<Pick>
     }
 }
 
-/// The pick of a delivery that can be made.
-pub(crate) fn moved(next: DeliveredNext) -> Option<Pick>
+// The pick of a delivery that can be made.
+fn moved(next: DeliveredNext) -> Option<Pick>
     ensures { delivery_of next ≡ delivery_if result }
 {
     match next {
@@ -68,6 +69,71 @@ pub(crate) fn push_delivery(next: Option<Pick>, moves: &mut Vec<Move>) -> Result
         }
         None => Ok(()),
     }
+}
+
+/// Lists the deliveries that the slice can be asked for. Nothing waits in so many lines in front of its ring.
+pub(crate) fn list_waiting<F: MissFile>(
+    state: &SliceState<F>,
+    idle: &mut usize,
+    moves: &mut Vec<Move>,
+) -> Result<(), AllocError>
+    requires { HasIdleFront idle.old state.now }
+    ensures moves { OnOk result (moves.new.items ≡ moves.old.items ++ waiting_in state.now) }
+    ensures idle { HasIdleFront idle.new state.now }
+{
+    let _ = first_front(state, idle);
+    list_behind(state, *idle, moves)
+}
+
+// .. line by line behind those.
+fn list_behind<F: MissFile>(
+    state: &SliceState<F>,
+    idle: usize,
+    moves: &mut Vec<Move>,
+) -> Result<(), AllocError>
+    requires { HasIdleFront idle state.now }
+    ensures { OnOk result (moves.new.items ≡ moves.old.items ++ waiting_in state.now) }
+{
+    let _ = state.log();
+    let mut place = idle;
+    while let Some(line) = state.ring_line(place) {
+        list_line(state, line, moves)?;
+        // there is no memory for a ring with so many lines
+        if place == usize::MAX {
+            return Err(AllocError);
+        }
+        place += 1;
+    }
+    Ok(())
+}
+
+// Lists the deliveries of the messages of a line, channel by channel.
+fn list_line<F: MissFile>(
+    state: &SliceState<F>,
+    line: LineAddr,
+    moves: &mut Vec<Move>,
+) -> Result<(), AllocError>
+    ensures { OnOk result (moves.new.items ≡ moves.old.items ++ waiting_of state.now.view line) }
+{
+    match state.waiting_at(line) {
+        Some(waiting) => push_all(line, waiting, moves),
+        None => Ok(()),
+    }
+}
+
+fn push_all(
+    line: LineAddr,
+    waiting: LineWaiting<'_>,
+    moves: &mut Vec<Move>,
+) -> Result<(), AllocError>
+    ensures { OnOk result (moves.new.items
+        ≡ moves.old.items ++ map (λ channel. Move.Deliver (pick_at line channel)) waiting.entry) }
+{
+    let mut left = waiting;
+    while let Some(channel) = left.next() {
+        moves.push(Move::Deliver(channel.at(line)))?;
+    }
+    Ok(())
 }
 
 // The first line of the ring that isn't idle.

@@ -10,14 +10,17 @@ ghost use Rattle.program_run.specs.Json.{
   line_objects_of,
   member_of,
   members_of,
+  moves_member,
+  pace_members,
   usage_members,
 };
 ghost use Rattle.program_run.specs.Usage.{usage_at};
 
-use super::column::{Column, columns_of_all, columns_of_core, line_columns};
+use super::column::{Column, columns_of_all, columns_of_core, line_columns, pace_columns};
 use super::tally::{Counts, Tally};
 use super::usage::{Usage, usage_of_all};
 use json_text::{Number, write_comma};
+use program_text::Limits;
 use std::fmt;
 use std::fmt::Write;
 
@@ -25,21 +28,25 @@ use std::fmt::Write;
 pub(crate) fn write_json<W: Write>(
     tally: &Tally,
     usages: &[Usage],
-    is_limited: bool,
+    limits: Limits,
     seed: u64,
     out: &mut W,
 ) -> fmt::Result
     ensures { OnOk result
-        (WritesInCalls W.write_str_gives out.old (json_of tally.now usages.now is_limited seed) out.new) }
+        (WritesInCalls W.write_str_gives out.old (json_of tally.now usages.now limits seed) out.new) }
 {
+    let is_limited = limits.is_limited();
+    let all = tally.all();
+    let usage = usage_of_all(usages);
     let seed = Number(seed);
     write!(out, "{{\"seed\":{seed},\"cores\":[")?;
     write_cores(is_limited, tally.cores(), usages, out)?;
     write!(out, "],\"lines\":[")?;
     write_lines(tally.lines(), out)?;
     write!(out, "],\"all\":{{")?;
-    write_members(columns_of_all(is_limited), &tally.all(), out)?;
-    write_usage(is_limited, usage_of_all(usages), out)?;
+    write_members(columns_of_all(is_limited), &all, out)?;
+    write_usage(is_limited, usage, out)?;
+    write_pace(is_limited, limits.is_paced(), usage.moves, &all, out)?;
     writeln!(out, "}}}}")
 }
 
@@ -102,6 +109,35 @@ fn write_usage<W: Write>(is_limited: bool, usage: Usage, out: &mut W) -> fmt::Re
         out,
         ",\"moves\":{moves},\"registers_most\":{most_registers},\"registers_sum\":{sum_registers},\"targets_most\":{most_targets},\"targets_sum\":{sum_targets}"
     )
+}
+
+// How many moves there were and how many of them delivered, where it is said how many deliveries each slice makes.
+fn write_pace<W: Write>(
+    is_limited: bool,
+    is_paced: bool,
+    moves: u64,
+    all: &Counts,
+    out: &mut W,
+) -> fmt::Result
+    ensures { OnOk result
+        (WritesInCalls W.write_str_gives out.old (pace_members is_limited is_paced moves all.now) out.new) }
+{
+    if !is_paced {
+        return Ok(());
+    }
+    write_moves(is_limited, moves, out)?;
+    write!(out, ",")?;
+    write_members(pace_columns(), all, out)
+}
+
+fn write_moves<W: Write>(is_there: bool, moves: u64, out: &mut W) -> fmt::Result
+    ensures { OnOk result (WritesInCalls W.write_str_gives out.old (moves_member is_there moves) out.new) }
+{
+    if is_there {
+        return Ok(());
+    }
+    let moves = Number(moves);
+    write!(out, ",\"moves\":{moves}")
 }
 
 fn write_lines<W: Write>(lines: &[Counts], out: &mut W) -> fmt::Result

@@ -1,4 +1,4 @@
-ghost use Rattle.std.specs.Prelude.{◌≡◌, ◌<◌, ◌%◌, IfOk, IfSome, List, OnOk, Some, length, slice_get};
+ghost use Rattle.std.specs.Prelude.{◌≡◌, ◌++◌, ◌<◌, ◌%◌, IfOk, IfSome, List, OnOk, Some, length, slice_get, slice_index_or};
 ghost use Rattle.address_map.specs.declared.config.Config.{Config};
 ghost use Rattle.address_map.specs.Place.{line_of as line_of_word};
 ghost use Rattle.litmus_script.specs.Issued.{IsIssued};
@@ -9,16 +9,16 @@ ghost use Rattle.slice_core.specs.declared.run.CallAnswer.TheVariants as call_an
 ghost use Rattle.slice_core_plan.specs.Calls.{PartsView, core_of, next_pick};
 ghost use Rattle.slice_queues_message.specs.Pick.{channel_of, line_of};
 ghost use Rattle.slice_queues_message.specs.declared.channel.Class.TheVariants as classes;
-ghost use Rattle.program_run.specs.Front.{AreIdle, LooksAgain, LooksBehind, delivery_if};
+ghost use Rattle.program_run.specs.Front.{AreIdle, HasIdleFront, LooksAgain, LooksBehind, delivery_if};
 ghost use Rattle.program_run.specs.Kept.{AreDecided, KeepsOthers, Knows};
-ghost use Rattle.program_run.specs.Run.{decision_on, delivery_of};
+ghost use Rattle.program_run.specs.Run.{decision_on, delivery_of, waiting_in};
 
-use super::front::{lines_before, moved, next_delivery};
-use super::moves::decide;
+use super::front::{lines_before, list_waiting, next_delivery};
+use super::moves::{Move, decide};
 use address_map::{CoreId, LineAddr, Request, SliceId};
 use litmus_script::{Issued, Machine};
 use mshr_file::MissFile;
-use slice_core::{Class, Decision, Delivered, Numbered, Pick};
+use slice_core::{Decision, Delivered, Numbered, Pick};
 use std::alloc::{AllocError, Global};
 
 /// What the machine decides of a request.
@@ -156,13 +156,50 @@ impl Kept {
             (λ state. delivery_of (next_pick state classes.Any) ≡ delivery_if result) }
         ensures kept { Knows machine.now.config machine.now.slices.items self.new }
     {
-        if slice >= self.idle.len() {
-            return moved(machine.slices[slice].next(Class::Any));
-        }
-        let mut idle = self.idle[slice];
+        let mut idle = self.idle_of(slice);
         let next = next_delivery(&machine.slices[slice], &mut idle);
-        self.idle[slice] = idle;
+        self.keep_idle(slice, idle);
         next
+    }
+
+    /// Lists the deliveries that a slice can be asked for.
+    pub fn list_waiting<F: MissFile>(
+        &mut self,
+        machine: &Machine<F>,
+        slice: usize,
+        moves: &mut Vec<Move>,
+    ) -> Result<(), AllocError>
+        requires slice { slice < length machine.now.slices.items }
+        requires kept { Knows machine.now.config machine.now.slices.items self.old }
+        ensures moves { OnOk result (IfSome (slice_get machine.now.slices.items slice)
+            (λ state. moves.new.items ≡ moves.old.items ++ waiting_in state)) }
+        ensures kept { OnOk result (Knows machine.now.config machine.now.slices.items self.new) }
+    {
+        let mut idle = self.idle_of(slice);
+        list_waiting(&machine.slices[slice], &mut idle, moves)?;
+        self.keep_idle(slice, idle);
+        Ok(())
+    }
+
+    // In how many lines in front of the slice's ring nothing waits.
+    fn idle_of(&self, slice: usize) -> usize
+        ensures { result ≡ slice_index_or self.now.idle.items slice 0 }
+    {
+        match self.idle.get(slice) {
+            Some(count) => *count,
+            None => 0,
+        }
+    }
+
+    fn keep_idle(&mut self, slice: usize, idle: usize)
+        ensures decided { self.new.decided ≡ self.old.decided }
+        ensures idle { (slices : List PartsView) (state : PartsView) → slice_get slices slice ≡ Some state
+            → HasIdleFront idle state → AreIdle self.old.idle.items slices → AreIdle self.new.idle.items slices }
+    {
+        if slice >= self.idle.len() {
+            return;
+        }
+        self.idle[slice] = idle;
     }
 
     // Lines to which an access may have sent something are looked at again.

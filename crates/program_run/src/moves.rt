@@ -154,10 +154,10 @@ fn may_ask<F: MissFile>(
     ensures may { result ≡ may_ask machine.now.config programs.now machine.now.slices.items places.now number }
     ensures kept { Knows machine.now.config machine.now.slices.items kept.new }
 {
-    if has_to_wait(programs.outstanding, places, number) {
+    if has_to_wait(programs.limits.outstanding, places, number) {
         return false;
     }
-    let stalls = may_stall(programs.outstanding, places, number);
+    let stalls = may_stall(programs.limits.outstanding, places, number);
     match next_turn(machine.config.cores(), programs, places, number) {
         Some((core, turn)) => may_turn(machine, kept, stalls, core, turn),
         None => false,
@@ -225,7 +225,7 @@ pub(crate) fn next_turn(
 {
     match (programs.cores.get(number), places.get(number)) {
         (Some(program), Some(place)) => {
-            next_of_program(cores, programs.outstanding, program, *place)
+            next_of_program(cores, programs.limits.outstanding, program, *place)
         }
         _ => None,
     }

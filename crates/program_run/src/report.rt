@@ -3,36 +3,41 @@ ghost use Rattle.std.specs.Fmt.{WritesInCalls};
 ghost use Rattle.stats_report.specs.Report.{right_in_10};
 ghost use Rattle.program_run.specs.Column.{name_of};
 ghost use Rattle.program_run.specs.Report.{core_rows, counts_of, heading_of, line_row, line_rows, names_of};
-ghost use Rattle.program_run.specs.Report.{mean_of, parallel_table, report_of, row_of, usage_row, usage_rows, usage_table};
+ghost use Rattle.program_run.specs.Report.{mean_of, pace_table, parallel_table, report_of, row_of, usage_row, usage_rows, usage_table};
 
-use super::column::{Column, core_columns, line_columns, parallel_columns};
+use super::column::{Column, core_columns, line_columns, pace_columns, parallel_columns};
 use super::tally::{Counts, Tally};
-use super::usage::{Usage, hundredths_of, whole_of};
+use super::usage::{Usage, hundredths_of, usage_of_all, whole_of};
+use program_text::Limits;
 use std::fmt;
 use std::fmt::Write;
 
 /// Writes a table of the cores, and one of the lines that were asked for, which ends with the sums. Two further tables
-/// of the cores stand behind it where several accesses of each may be under way.
+/// of the cores stand behind it where several accesses of each may be under way, and at last how many moves delivered,
+/// where it is said how many deliveries each slice makes.
 pub(crate) fn write_report<W: Write>(
     tally: &Tally,
     usages: &[Usage],
-    is_limited: bool,
+    limits: Limits,
     seed: u64,
     out: &mut W,
 ) -> fmt::Result
     ensures { OnOk result
-        (WritesInCalls W.write_str_gives out.old (report_of tally.now usages.now is_limited seed) out.new) }
+        (WritesInCalls W.write_str_gives out.old (report_of tally.now usages.now limits seed) out.new) }
 {
+    let is_limited = limits.is_limited();
+    let all = tally.all();
     writeln!(out, "seed {seed}")?;
     write_heading("      core", core_columns(), out)?;
     write_cores(core_columns(), tally.cores(), out)?;
     write_heading("      line", line_columns(), out)?;
     write_lines(tally.lines(), out)?;
     write!(out, "       all")?;
-    write_counts(line_columns(), &tally.all(), out)?;
+    write_counts(line_columns(), &all, out)?;
     writeln!(out)?;
     write_parallel(is_limited, tally.cores(), out)?;
-    write_usages(is_limited, usages, out)
+    write_usages(is_limited, usages, out)?;
+    write_pace(limits.is_paced(), usage_of_all(usages).moves, &all, out)
 }
 
 fn write_parallel<W: Write>(is_limited: bool, cores: &[Counts], out: &mut W) -> fmt::Result
@@ -56,6 +61,16 @@ fn write_usages<W: Write>(is_limited: bool, usages: &[Usage], out: &mut W) -> fm
         "      core regs-most    regs-mean tgts-most    tgts-mean"
     )?;
     write_usage_rows(usages, out)
+}
+
+fn write_pace<W: Write>(is_paced: bool, moves: u64, all: &Counts, out: &mut W) -> fmt::Result
+    ensures { OnOk result (WritesInCalls W.write_str_gives out.old (pace_table is_paced moves all.now) out.new) }
+{
+    if !is_paced {
+        return Ok(());
+    }
+    write_heading("     moves", pace_columns(), out)?;
+    write_row(moves, pace_columns(), all, out)
 }
 
 fn write_usage_rows<W: Write>(usages: &[Usage], out: &mut W) -> fmt::Result

@@ -6,13 +6,13 @@ ghost use Rattle.program_text.specs.Fault.{IsProgramText, programs_of, settings_
 ghost use Rattle.program_text.specs.declared.programs.Programs.{Programs};
 ghost use Rattle.litmus_script.specs.Play.{IsOfRun};
 ghost use Rattle.rand_xoshiro.specs.Xoshiro256.{plus_plus};
-ghost use Rattle.program_text.specs.Judged.{is_limited};
-ghost use Rattle.program_run.specs.Run.{IsProgramNotRun, IsProgramsRun, Leads, Runs, drawn_move, limited_to, text_of};
-ghost use Rattle.program_run.specs.Run.{text_of_stuck};
+ghost use Rattle.program_run.specs.Run.{IsProgramNotRun, IsProgramsRun, Leads, Runs, drawn_move, is_measured, limited_to};
+ghost use Rattle.program_run.specs.Run.{text_of, text_of_stuck};
 
 use super::json::write_json;
 use super::kept::Kept;
 use super::moves::Move;
+use super::owed::nothing_owed;
 use super::report::write_report;
 use super::runner::Runner;
 use super::tally::Tally;
@@ -21,7 +21,7 @@ use litmus_script::TextWriter;
 use litmus_test::Progress;
 use litmus_text::TextFault;
 use mshr_file::{ExplicitFile, InvertedFile, MissFile, MissKind};
-use program_text::Programs;
+use program_text::{Limits, Programs};
 use rand_core::SeedableRng;
 use rand_core::utils::NextWord;
 use rand_xoshiro::Xoshiro256PlusPlus;
@@ -36,37 +36,39 @@ pub enum Form {
     Json,
 }
 
-/// Runs the programs that a text says in the order that the seed draws, and prints the report. So many accesses of a
-/// core may be under way as the text says, where no other number is given, and one where neither says a number. Returns
-/// the exit status, which is 1 where nothing can move before the end; then nothing else is printed.
+/// Runs the programs that a text says in the order that the seed draws, and prints the report. What is given bounds the
+/// run, and else what the text says; where neither says so, one access of a core may be under way, and slices make no
+/// deliveries behind an access of their own. Returns the exit status, which is 1 where nothing can move before the end;
+/// then nothing else is printed.
 pub fn run_programs<P: Progress, W: Write>(
     alloc: Global,
     input: &[u8],
-    outstanding: Option<u64>,
+    given: Limits,
     seed: u64,
     form: Form,
     progress: &mut P,
     out: &mut W,
 ) -> Result<u8, TextFault>
     ensures done { IfOk result (λ status. (programs : Programs)
-        × IsProgramText input.now (settings_of programs) programs.outstanding (programs_of programs)
-        × IsProgramsRun (bound_of programs.misses programs.config) (limited_to outstanding programs) form seed status
+        × IsProgramText input.now (settings_of programs) programs.limits (programs_of programs)
+        × IsProgramsRun (bound_of programs.misses programs.config) (limited_to given programs) form seed status
         (W.contents out.old) (W.contents out.new)) }
     ensures fault { IfErr result (IsProgramNotRun input.now) }
 {
     let mut programs = Programs::read(alloc, input)?;
-    limit(&mut programs, outstanding);
+    limit(&mut programs, given);
     run_read(alloc, &programs, seed, form, progress, out)
 }
 
-/// So many accesses of a core may be under way, where a number is given.
-pub fn limit(programs: &mut Programs, outstanding: Option<u64>)
-    ensures { programs.new ≡ limited_to outstanding programs.old }
+/// What is given bounds the run, and not what the text says.
+pub fn limit(programs: &mut Programs, given: Limits)
+    ensures { programs.new ≡ limited_to given programs.old }
 {
-    match outstanding {
-        Some(most) => programs.outstanding = Some(most),
-        None => {}
-    }
+    let Limits { outstanding, pace } = programs.limits;
+    programs.limits = Limits {
+        outstanding: given.outstanding.or(outstanding),
+        pace: given.pace.or(pace),
+    };
 }
 
 /// The same with programs that are read.
@@ -108,9 +110,15 @@ fn run_on<F: MissFile, P: Progress, W: Write>(
     let mut runner = Runner::<F>::new(alloc, programs, false)?;
     run(alloc, programs, seed, &mut runner, progress)?;
     if runner.is_over(programs) {
-        let limited = is_limited(programs.outstanding);
         let usages = runner.usages(alloc, programs)?;
-        print_report(runner.tally(), usages.as_slice(), limited, seed, form, out)?;
+        print_report(
+            runner.tally(),
+            usages.as_slice(),
+            programs.limits,
+            seed,
+            form,
+            out,
+        )?;
         Ok(0)
     } else {
         print_stuck(seed, out)?;
@@ -118,14 +126,11 @@ fn run_on<F: MissFile, P: Progress, W: Write>(
     }
 }
 
-// Whether several accesses of a core may be under way.
-fn is_limited(outstanding: Option<u64>) -> bool
-    ensures { result ≡ is_limited outstanding }
+// Whether something bounds the run.
+fn is_measured(limits: Limits) -> bool
+    ensures { result ≡ is_measured limits }
 {
-    match outstanding {
-        Some(_) => true,
-        None => false,
-    }
+    limits.is_limited() || limits.is_paced()
 }
 
 /// Makes moves up to the end.
@@ -142,13 +147,15 @@ pub(crate) fn run<F: MissFile, P: Progress>(
     let mut kept = Kept::new(alloc, programs.config.cores(), programs.config.slices())?;
     let mut moves = Vec::new(alloc);
     let mut performed = Vec::new(alloc);
+    let mut owed = nothing_owed(alloc, programs.config.slices())?;
     for made in 0..u64::MAX {
-        runner.list_moves(programs, &mut kept, &mut moves)?;
+        runner.list_moves(programs, owed.as_slice(), &mut kept, &mut moves)?;
         let Some(to) = draw(&mut generator, moves.as_slice()) else {
             return Ok(());
         };
+        runner.owe(programs, to, &mut owed);
         runner.go(programs, to, &mut kept, &mut performed)?;
-        runner.measure(is_limited(programs.outstanding));
+        runner.measure(is_measured(programs.limits));
         runner.tidy(made, &mut kept);
         runner.tell(made, programs, progress);
     }
@@ -186,17 +193,17 @@ fn place_of(word: u64, count: usize) -> usize
 fn print_report<W: Write>(
     tally: &Tally,
     usages: &[Usage],
-    limited: bool,
+    limits: Limits,
     seed: u64,
     form: Form,
     out: &mut W,
 ) -> Result<(), TextFault>
     ensures printed { OnOk result
-        (Appends (W.contents out.old) (W.contents out.new) (text_of form tally.now usages.now limited seed)) }
+        (Appends (W.contents out.old) (W.contents out.new) (text_of form tally.now usages.now limits seed)) }
     ensures fault { IfErr result IsOfRun }
 {
     let mut answers = TextWriter { out };
-    match write_form(tally, usages, limited, seed, form, &mut answers) {
+    match write_form(tally, usages, limits, seed, form, &mut answers) {
         Ok(()) => Ok(()),
         Err(_) => Err(TextFault::CannotWrite),
     }
@@ -205,17 +212,17 @@ fn print_report<W: Write>(
 fn write_form<W: fmt::Write>(
     tally: &Tally,
     usages: &[Usage],
-    limited: bool,
+    limits: Limits,
     seed: u64,
     form: Form,
     out: &mut W,
 ) -> fmt::Result
     ensures { OnOk result
-        (WritesInCalls W.write_str_gives out.old (text_of form tally.now usages.now limited seed) out.new) }
+        (WritesInCalls W.write_str_gives out.old (text_of form tally.now usages.now limits seed) out.new) }
 {
     match form {
-        Form::Table => write_report(tally, usages, limited, seed, out),
-        Form::Json => write_json(tally, usages, limited, seed, out),
+        Form::Table => write_report(tally, usages, limits, seed, out),
+        Form::Json => write_json(tally, usages, limits, seed, out),
     }
 }
 

@@ -25,12 +25,17 @@ ghost use Rattle.program_run.specs.Run.{
   deliveries_of,
   fewer_registers,
   gone_on,
+  is_access,
   left_in,
   makes_room,
   measured_place,
   measured_runner,
   more_registers,
   more_waiting,
+  next_of,
+  or_else,
+  owed_behind,
+  owed_from,
   program_of,
   takes_of,
   usage_in,
@@ -42,6 +47,7 @@ use super::calls::Calls;
 use super::kept::Kept;
 use super::moves::{Move, Place, Takes, Turn, list_moves, next_turn};
 use super::observer::Observer;
+use super::owed::{is_none, list_owed, owe_all, owe_less, pace_of};
 use super::performed::{hand_out_all, list_performed};
 use super::register::is_closed;
 use super::tally::Tally;
@@ -159,21 +165,52 @@ impl<F: MissFile> Runner<F> {
         }
     }
 
-    /// Lists what may come next.
+    /// Lists what may come next, where each slice has so many deliveries still to make.
     pub fn list_moves(
         &self,
         programs: &Programs,
+        owed: &[u64],
         kept: &mut Kept,
         moves: &mut Vec<Move>,
     ) -> Result<(), AllocError>
         requires { Knows self.now.config self.now.slices kept.old }
-        ensures moves { OnOk result (moves.new.items
-            ≡ asks_of self.now.config programs.now self.now.slices self.now.places
-            ++ deliveries_of self.now.slices) }
+        ensures moves { OnOk result (moves.new.items ≡ or_else (owed_from owed.now 0 self.now.slices)
+            (asks_of self.now.config programs.now self.now.slices self.now.places
+            ++ deliveries_of self.now.slices)) }
         ensures kept { OnOk result (Knows self.now.config self.now.slices kept.new) }
     {
         moves.clear();
+        list_owed(&self.machine, owed, kept, moves)?;
+        if !is_none(moves.as_slice()) {
+            return Ok(());
+        }
         list_moves(&self.machine, programs, self.places.as_slice(), kept, moves)
+    }
+
+    /// Says how many deliveries each slice has still to make behind the move, before that is made.
+    pub fn owe(&self, programs: &Programs, to: Move, owed: &mut Vec<u64>)
+        ensures { owed.new.items
+            ≡ owed_behind self.now.config programs.now self.now.places to owed.old.items }
+    {
+        match to {
+            Move::Ask(number) => {
+                if self.is_access(programs, number) {
+                    owe_all(owed, pace_of(programs.limits.pace));
+                }
+            }
+            Move::Deliver(pick) => owe_less(owed, self.machine.slice_of(pick.line())),
+        }
+    }
+
+    // Whether the next step of the program of this number is an access.
+    fn is_access(&self, programs: &Programs, number: usize) -> bool
+        ensures { result ≡ is_access (next_of self.now.config.cores programs.now self.now.places number) }
+    {
+        let cores = self.machine.config.cores();
+        matches!(
+            next_turn(cores, programs, self.places.as_slice(), number),
+            Some((_, Turn::Ask(_)))
+        )
     }
 
     /// Makes the move. What a delivery performs is listed for that.

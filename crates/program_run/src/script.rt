@@ -15,7 +15,7 @@ use litmus_script::TextWriter;
 use litmus_test::Silent;
 use litmus_text::{Command, TextFault};
 use mshr_file::{ExplicitFile, InvertedFile, MissFile, MissKind};
-use program_text::Programs;
+use program_text::{Limits, Programs};
 use script_text::{write_command, write_settings};
 use std::alloc::Global;
 use std::fmt::Write;
@@ -28,18 +28,18 @@ use std::{fmt, io};
 pub fn write_schedule<W: io::Write>(
     alloc: Global,
     input: &[u8],
-    outstanding: Option<u64>,
+    given: Limits,
     seed: u64,
     out: &mut W,
 ) -> Result<u8, TextFault>
     ensures done { IfOk result (λ status. (programs : Programs)
-        × IsProgramText input.now (settings_of programs) programs.outstanding (programs_of programs)
-        × PrintsSchedule (bound_of programs.misses programs.config) (limited_to outstanding programs) seed status
+        × IsProgramText input.now (settings_of programs) programs.limits (programs_of programs)
+        × PrintsSchedule (bound_of programs.misses programs.config) (limited_to given programs) seed status
         (W.contents out.old) (W.contents out.new)) }
     ensures fault { IfErr result (IsProgramNotRun input.now) }
 {
     let mut programs = Programs::read(alloc, input)?;
-    limit(&mut programs, outstanding);
+    limit(&mut programs, given);
     write_read(alloc, &programs, seed, out)
 }
 

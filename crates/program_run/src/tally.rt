@@ -4,6 +4,7 @@ ghost use Rattle.program_run.specs.Tally.{
   counted_at,
   counted_of,
   counts_together,
+  delivered_of,
   line_of,
   misses_of,
   no_counts,
@@ -149,6 +150,18 @@ impl Counts {
             .saturating_add(self.no_way)
             .saturating_add(self.write_back_full)
             .saturating_add(self.write_back_busy)
+    }
+
+    /// The messages delivered, of all kinds.
+    pub fn delivered(&self) -> u64
+        ensures { result ≡ delivered_of self.now }
+    {
+        self.messages
+            .requests
+            .saturating_add(self.messages.forwarded)
+            .saturating_add(self.messages.data_replies)
+            .saturating_add(self.messages.acknowledgements)
+            .saturating_add(self.messages.home)
     }
 
     /// Counts one more.

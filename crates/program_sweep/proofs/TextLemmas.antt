@@ -3,7 +3,8 @@ use Rattle.std.proofs.Common.{◌≡◌, ℕ, Bool, List, [], ◌∷◌, ◌++�
 use Rattle.std.proofs.Common.{◌<◌, ◌≤◌, ◌+◌, None, Some, drop, false, get_or, length, refl, true}
 use Rattle.std.proofs.lemmas.List.{at_drop_all, at_drop_more}
 use Rattle.program_sweep.specs.declared.setting.Setting.{Setting}
-use Rattle.program_sweep.specs.Text.{added_if, ended, ends_settings, is_outstanding, left_with, outstanding_of}
+use Rattle.program_sweep.specs.declared.name.Bound.{Bound}
+use Rattle.program_sweep.specs.Text.{added_if, bounding_in, bounds, ended, ends_settings, left_with}
 
 -- the next line
 pub next_line : (added line : List ℕ) (more left : List (List ℕ)) (is_before ends after : Bool) (old mid new : List ℕ)
@@ -26,27 +27,27 @@ pub end_lines : (added : List ℕ) (is_before : Bool) (left : List (List ℕ)) (
 end_lines added is_before left old new none one =
     one ∙ ap (λ (t : List ℕ). old ++ t) (sym (ap (left_with added is_before) none))
 
--- ---- the setting that is how many accesses may be under way
+-- ---- the setting that bounds a run
 
-module _ (settings : List Setting) (i : ℕ) where
-  -- a setting of another name is not
-  pub next_outstanding : (setting : Setting) → i < length settings → setting ≡ get_or settings i setting
-      → is_outstanding setting.name.now ≡ false
-      → outstanding_of (drop i settings) ≡ outstanding_of (drop (i + 1) settings)
-  next_outstanding setting below here other =
-      let first : outstanding_of (setting ∷ drop (i + 1) settings) ≡ outstanding_of (drop (i + 1) settings) =
+module _ (bound : Bound) (settings : List Setting) (i : ℕ) where
+  -- a setting of another name does not
+  pub next_bound : (setting : Setting) → i < length settings → setting ≡ get_or settings i setting
+      → bounds bound setting.name.now ≡ false
+      → bounding_in bound (drop i settings) ≡ bounding_in bound (drop (i + 1) settings)
+  next_bound setting below here other =
+      let first : bounding_in bound (setting ∷ drop (i + 1) settings) ≡ bounding_in bound (drop (i + 1) settings) =
       rw other refl in
-      at_drop_more outstanding_of settings i setting below
-      ∙ ap (λ (s : Setting). outstanding_of (s ∷ drop (i + 1) settings)) (sym here) ∙ first
+      at_drop_more (bounding_in bound) settings i setting below
+      ∙ ap (λ (s : Setting). bounding_in bound (s ∷ drop (i + 1) settings)) (sym here) ∙ first
 
-  -- one of that name is
-  pub this_outstanding : (setting : Setting) → i < length settings → setting ≡ get_or settings i setting
-      → is_outstanding setting.name.now ≡ true → outstanding_of (drop i settings) ≡ Some setting
-  this_outstanding setting below here named =
-      let first : outstanding_of (setting ∷ drop (i + 1) settings) ≡ Some setting = rw named refl in
-      at_drop_more outstanding_of settings i setting below
-      ∙ ap (λ (s : Setting). outstanding_of (s ∷ drop (i + 1) settings)) (sym here) ∙ first
+  -- one of that name does
+  pub this_bound : (setting : Setting) → i < length settings → setting ≡ get_or settings i setting
+      → bounds bound setting.name.now ≡ true → bounding_in bound (drop i settings) ≡ Some setting
+  this_bound setting below here named =
+      let first : bounding_in bound (setting ∷ drop (i + 1) settings) ≡ Some setting = rw named refl in
+      at_drop_more (bounding_in bound) settings i setting below
+      ∙ ap (λ (s : Setting). bounding_in bound (s ∷ drop (i + 1) settings)) (sym here) ∙ first
 
-  -- where none is left none is
-  pub last_outstanding : length settings ≤ i → outstanding_of (drop i settings) ≡ None
-  last_outstanding end = at_drop_all outstanding_of settings i end
+  -- where none is left none does
+  pub last_bound : length settings ≤ i → bounding_in bound (drop i settings) ≡ None
+  last_bound end = at_drop_all (bounding_in bound) settings i end

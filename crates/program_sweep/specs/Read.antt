@@ -10,6 +10,7 @@ use Rattle.program_sweep.specs.declared.seeds.Seeds.{Seeds}
 use Rattle.program_sweep.specs.declared.setting.Setting.{Setting}
 use Rattle.program_sweep.specs.declared.sweep.Sweep.{Sweep}
 use Rattle.program_sweep.specs.Text.{may_vary}
+use Rattle.program_text.specs.declared.programs.Limits.{Limits}
 
 -- ---- settings
 
@@ -99,11 +100,11 @@ spans_of [] seeds = []
 spans_of (count ∷ counts) seeds = rows_of counts seeds ∷ spans_of counts seeds
 
 -- the rows that these texts and seeds make: the last setting varies fastest, and the seeds faster still
-pub record IsSweep (texts : List (List ℕ)) (seeds : Seeds) (outstanding : Option ℕ) (sweep : Sweep) : Type 0 where
+pub record IsSweep (texts : List (List ℕ)) (seeds : Seeds) (limits : Limits) (sweep : Sweep) : Type 0 where
   pub settings : AreSettings texts sweep.settings.items
   pub spans : map (λ setting. setting.span) sweep.settings.items
       ≡ spans_of (counts_of sweep.settings.items) seeds.count
   pub rows : sweep.rows ≡ rows_of (counts_of sweep.settings.items) seeds.count
   pub few : sweep.rows ≤ 1000000
   pub same_seeds : sweep.seeds ≡ seeds
-  pub same_number : sweep.outstanding ≡ outstanding
+  pub same_limits : sweep.limits ≡ limits

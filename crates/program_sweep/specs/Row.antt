@@ -18,7 +18,7 @@ row_of programs seed sums = record {
   policy = programs.config.policy;
   misses = programs.misses;
   exclusive = programs.config.exclusive;
-  outstanding = programs.outstanding;
+  limits = programs.limits;
   seed = seed;
   sums = sums;
 }

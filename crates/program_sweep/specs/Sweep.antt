@@ -10,6 +10,7 @@ use Rattle.program_run.specs.Run.{limited_to}
 use Rattle.program_run.specs.Sums.{IsCounted}
 use Rattle.program_run.specs.declared.sums.Sums.{Sums}
 use Rattle.program_text.specs.Fault.{IsProgramText, programs_of, settings_of}
+use Rattle.program_text.specs.declared.programs.Limits.{Limits}
 use Rattle.program_text.specs.declared.programs.Programs.{Programs}
 use Rattle.program_sweep.specs.declared.fault.Refusal.{Refusal}
 use Rattle.program_sweep.specs.declared.fault.Refusal.TheVariants as refusals
@@ -20,7 +21,7 @@ use Rattle.program_sweep.specs.declared.row.Row.{Row}
 use Rattle.program_sweep.specs.declared.sweep.Sweep.{Sweep}
 use Rattle.program_sweep.specs.Form.{end_of, text_of_row}
 use Rattle.program_sweep.specs.Row.{row_of}
-use Rattle.program_sweep.specs.Text.{IsOutstandingIn, lines_of_settings, seed_in, with_settings}
+use Rattle.program_sweep.specs.Text.{AreLimitsIn, lines_of_settings, seed_in, with_settings}
 
 -- the row has the settings of these programs, the seed, and the sums of their run, which comes to its end
 pub record IsRowOf (programs : Programs) (seed : ℕ) (row : Row) : Type 0 where
@@ -28,15 +29,15 @@ pub record IsRowOf (programs : Programs) (seed : ℕ) (row : Row) : Type 0 where
   pub counted : IsCounted (bound_of programs.misses programs.config) programs seed (Some sums)
   pub is : row ≡ row_of programs seed sums
 
--- the row is that of the text with the settings and the seed of the row of this number, with so many accesses of a core
--- under way as a setting or the command line says
+-- the row is that of the text with the settings and the seed of the row of this number, bounded as settings or the command
+-- line say
 pub record HasRun (input : List ℕ) (sweep : Sweep) (number : ℕ) (row : Row) : Type 0 where
   pub read : Programs
   pub says : IsProgramText (with_settings (lines_of_settings sweep.settings.items number) (lines input))
-      (settings_of read) read.outstanding (programs_of read)
-  pub most : Option ℕ
-  pub outstanding : IsOutstandingIn sweep.settings.items sweep.outstanding number most
-  pub has : IsRowOf (limited_to most read) (seed_in sweep.seeds number) row
+      (settings_of read) read.limits (programs_of read)
+  pub limits : Limits
+  pub bounded : AreLimitsIn sweep.settings.items sweep.limits number limits
+  pub has : IsRowOf (limited_to limits read) (seed_in sweep.seeds number) row
 
 -- .. and this is its text
 pub record IsRow (input : List ℕ) (sweep : Sweep) (program : List ℕ) (form : RowForm) (number : ℕ) (text : List ℕ) :

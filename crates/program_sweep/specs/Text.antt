@@ -7,6 +7,9 @@ use Rattle.std.specs.Str.Parse.{digits_value}
 use Rattle.litmus_text.specs.Number.{IsNumber}
 use Rattle.litmus_text.specs.Table.{value_named}
 use Rattle.litmus_text.specs.Text.{words_of_line}
+use Rattle.program_text.specs.declared.programs.Limits.{Limits}
+use Rattle.program_sweep.specs.declared.name.Bound.{Bound}
+use Rattle.program_sweep.specs.declared.name.Bound.TheVariants as bound_kinds
 use Rattle.program_sweep.specs.declared.seeds.Seeds.{Seeds}
 use Rattle.program_sweep.specs.declared.setting.Setting.{Setting}
 
@@ -60,9 +63,14 @@ value_in setting row =
     slice_index_or (map (λ value. value.now) setting.values.items)
     (row / setting.span % length setting.values.items) []
 
--- a setting of this name is how many accesses of a core may be under way
-abbrev pub is_outstanding : List ℕ → Bool
-is_outstanding name = is_some (value_named ((codes "outstanding", true) ∷ []) name)
+-- a setting of this name bounds a run in this way
+abbrev pub bounds : Bound → List ℕ → Bool
+bounds bound_kinds.Outstanding name = is_some (value_named ((codes "outstanding", true) ∷ []) name)
+bounds bound_kinds.Pace name = is_some (value_named ((codes "pace", true) ∷ []) name)
+
+-- .. in one of these
+abbrev pub is_bound : List ℕ → Bool
+is_bound name = bounds bound_kinds.Outstanding name || bounds bound_kinds.Pace name
 
 -- of lines that begin with the word the last counts
 abbrev pub replaces : List ℕ → Bool
@@ -70,12 +78,12 @@ replaces word = unwrap_or (value_named names word) false
 
 -- a setting of this name may vary: a later line of it takes the place of an earlier one, or it has none
 abbrev pub may_vary : List ℕ → Bool
-may_vary name = is_outstanding name || replaces name
+may_vary name = is_bound name || replaces name
 
 -- the line that sets it, which there is of each other setting
 abbrev pub line_of_setting : ℕ → Setting → List ℕ
 line_of_setting row setting =
-    if is_outstanding setting.name.now then []
+    if is_bound setting.name.now then []
     else setting.name.now ++ codes " " ++ value_in setting row ++ codes "\n"
 
 abbrev pub lines_of_settings : List Setting → ℕ → List ℕ
@@ -85,18 +93,23 @@ lines_of_settings settings row = flat_map (line_of_setting row) settings
 abbrev pub IsNumberIn : List ℕ → Option ℕ → Type 0
 IsNumberIn text number = SomeIff number (IsNumber text) (digits_value 10 text)
 
--- the first setting that is how many accesses of a core may be under way, if one is
-abbrev pub outstanding_of : List Setting → Option Setting
-outstanding_of [] = None
-outstanding_of (setting ∷ more) = if is_outstanding setting.name.now then Some setting else outstanding_of more
+-- the first setting that bounds a run in this way, if one does
+abbrev pub bounding_in : Bound → List Setting → Option Setting
+bounding_in bound [] = None
+bounding_in bound (setting ∷ more) = if bounds bound setting.name.now then Some setting else bounding_in bound more
 
--- so many may be under way in a row: as many as that setting says, or else as many as the command line says
-abbrev pub IsOutstandingBy : Option Setting → Option ℕ → ℕ → Option ℕ → Type 0
-IsOutstandingBy None given row most = most ≡ given
-IsOutstandingBy (Some setting) given row most = IsNumberIn (value_in setting row) most
+-- so many are allowed in a row: as many as that setting says, or else as many as the command line says
+abbrev pub IsBoundBy : Option Setting → Option ℕ → ℕ → Option ℕ → Type 0
+IsBoundBy None given row most = most ≡ given
+IsBoundBy (Some setting) given row most = IsNumberIn (value_in setting row) most
 
-abbrev pub IsOutstandingIn : List Setting → Option ℕ → ℕ → Option ℕ → Type 0
-IsOutstandingIn settings given row most = IsOutstandingBy (outstanding_of settings) given row most
+abbrev pub IsBoundIn : Bound → List Setting → Option ℕ → ℕ → Option ℕ → Type 0
+IsBoundIn bound settings given row most = IsBoundBy (bounding_in bound settings) given row most
+
+-- what bounds the run of a row
+pub record AreLimitsIn (settings : List Setting) (given : Limits) (row : ℕ) (limits : Limits) : Type 0 where
+  pub outstanding : IsBoundIn bound_kinds.Outstanding settings given.outstanding row limits.outstanding
+  pub pace : IsBoundIn bound_kinds.Pace settings given.pace row limits.pace
 
 -- the seed of a row
 abbrev pub seed_in : Seeds → ℕ → ℕ

@@ -1,6 +1,6 @@
 //! The columns of rows: what each is called, and what a row has there.
 ghost use Rattle.std.specs.Prelude.{◌≡◌};
-ghost use Rattle.program_sweep.specs.Cell.{all_cells, if_given, if_limited, name_of, value_in};
+ghost use Rattle.program_sweep.specs.Cell.{all_cells, if_bound, if_given, if_limited, name_of, number_if, value_in};
 
 use super::row::Row;
 use address_map::PolicyKind;
@@ -34,11 +34,13 @@ pub(crate) enum Cell {
     MissFile,
     Exclusive,
     Outstanding,
+    Pace,
     Seed,
     /// A count over all lines.
     Count(Column),
     /// .. which is counted only where it is said how many accesses of a core may be under way.
     Further(Column),
+    /// How many moves there were, which are counted only where something bounds the run.
     Moves,
     RegistersMost,
     RegistersSum,
@@ -46,7 +48,7 @@ pub(crate) enum Cell {
     TargetsSum,
 }
 
-static CELLS: [Cell; 40] = [
+static CELLS: [Cell; 42] = [
     Cell::Cores,
     Cell::Slices,
     Cell::Lines,
@@ -59,6 +61,7 @@ static CELLS: [Cell; 40] = [
     Cell::MissFile,
     Cell::Exclusive,
     Cell::Outstanding,
+    Cell::Pace,
     Cell::Seed,
     Cell::Count(Column::Requests),
     Cell::Count(Column::Hits),
@@ -83,6 +86,7 @@ static CELLS: [Cell; 40] = [
     Cell::Further(Column::WriteBackFull),
     Cell::Further(Column::WriteBackBusy),
     Cell::Moves,
+    Cell::Count(Column::Delivered),
     Cell::RegistersMost,
     Cell::RegistersSum,
     Cell::TargetsMost,
@@ -114,6 +118,7 @@ impl Cell {
             Cell::MissFile => "miss_file",
             Cell::Exclusive => "exclusive",
             Cell::Outstanding => "outstanding",
+            Cell::Pace => "pace",
             Cell::Seed => "seed",
             Cell::Count(column) | Cell::Further(column) => column.key(),
             Cell::Moves => "moves",
@@ -140,11 +145,12 @@ impl Cell {
             Cell::Policy => Value::Policy(row.policy),
             Cell::MissFile => Value::Misses(row.misses),
             Cell::Exclusive => Value::Switch(row.exclusive),
-            Cell::Outstanding => if_given(row.outstanding),
+            Cell::Outstanding => if_given(row.limits.outstanding),
+            Cell::Pace => if_given(row.limits.pace),
             Cell::Seed => Value::Number(row.seed),
             Cell::Count(column) => Value::Number(column.count(&row.sums.counts)),
             Cell::Further(column) => if_limited(row, column.count(&row.sums.counts)),
-            Cell::Moves => if_limited(row, row.sums.usage.moves),
+            Cell::Moves => if_bound(row, row.sums.usage.moves),
             Cell::RegistersMost => if_limited(row, row.sums.usage.most_registers),
             Cell::RegistersSum => if_limited(row, row.sums.usage.sum_registers),
             Cell::TargetsMost => if_limited(row, row.sums.usage.most_targets),
@@ -167,8 +173,22 @@ fn if_given(number: Option<u64>) -> Value
 fn if_limited(row: &Row, number: u64) -> Value
     ensures { result ≡ if_limited row.now number }
 {
-    match row.outstanding {
-        Some(_) => Value::Number(number),
-        None => Value::Nothing,
+    number_if(row.limits.is_limited(), number)
+}
+
+// .. or only where something bounds the run.
+fn if_bound(row: &Row, number: u64) -> Value
+    ensures { result ≡ if_bound row.now number }
+{
+    number_if(row.limits.is_limited() || row.limits.is_paced(), number)
+}
+
+fn number_if(is_counted: bool, number: u64) -> Value
+    ensures { result ≡ number_if is_counted number }
+{
+    if is_counted {
+        Value::Number(number)
+    } else {
+        Value::Nothing
     }
 }

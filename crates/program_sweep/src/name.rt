@@ -1,6 +1,6 @@
-//! The names of settings: the words with which the lines begin that configure a machine, and one more.
+//! The names of settings: the words with which the lines begin that configure a machine, and what bounds a run.
 ghost use Rattle.std.specs.Prelude.{◌≡◌};
-ghost use Rattle.program_sweep.specs.Text.{is_name, is_outstanding, may_vary, replaces};
+ghost use Rattle.program_sweep.specs.Text.{bounds, is_bound, is_name, may_vary, replaces};
 
 use litmus_text::value_named;
 
@@ -21,8 +21,18 @@ static NAMES: [(&[u8], bool); 13] = [
     (b"counter", false),
 ];
 
-/// How many accesses of a core may be under way, which no line says that configures.
+/// What bounds a run, which no line says that configures.
+#[derive(Clone, Copy, Debug, PartialEq, Eq)]
+pub(crate) enum Bound {
+    /// How many accesses of a core may be under way.
+    Outstanding,
+    /// How many deliveries each slice makes behind an access.
+    Pace,
+}
+
 static OUTSTANDING: [(&[u8], bool); 1] = [(b"outstanding", true)];
+
+static PACE: [(&[u8], bool); 1] = [(b"pace", true)];
 
 /// Whether a line that begins with the word configures, or would if it were well formed.
 pub(crate) fn is_name(word: &[u8]) -> bool
@@ -31,12 +41,11 @@ pub(crate) fn is_name(word: &[u8]) -> bool
     value_named(&NAMES, word).is_some()
 }
 
-/// Whether a setting of this name may vary: a later line of it takes the place of an earlier one, or it is how many
-/// accesses of a core may be under way.
+/// Whether a setting of this name may vary: a later line of it takes the place of an earlier one, or it bounds a run.
 pub(crate) fn may_vary(name: &[u8]) -> bool
     ensures { result ≡ may_vary name.now }
 {
-    is_outstanding(name) || replaces(name)
+    is_bound(name) || replaces(name)
 }
 
 // Whether a later line that begins with the word takes the place of an earlier one.
@@ -46,9 +55,19 @@ fn replaces(word: &[u8]) -> bool
     value_named(&NAMES, word).unwrap_or(false)
 }
 
-/// Whether a setting of this name is how many accesses of a core may be under way.
-pub(crate) fn is_outstanding(name: &[u8]) -> bool
-    ensures { result ≡ is_outstanding name.now }
+/// Whether a setting of this name bounds a run.
+pub(crate) fn is_bound(name: &[u8]) -> bool
+    ensures { result ≡ is_bound name.now }
 {
-    value_named(&OUTSTANDING, name).is_some()
+    bounds(Bound::Outstanding, name) || bounds(Bound::Pace, name)
+}
+
+/// .. in this way.
+pub(crate) fn bounds(bound: Bound, name: &[u8]) -> bool
+    ensures { result ≡ bounds bound name.now }
+{
+    match bound {
+        Bound::Outstanding => value_named(&OUTSTANDING, name).is_some(),
+        Bound::Pace => value_named(&PACE, name).is_some(),
+    }
 }

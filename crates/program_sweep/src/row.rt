@@ -5,7 +5,7 @@ ghost use Rattle.program_sweep.specs.Row.{row_of};
 use address_map::PolicyKind;
 use mshr_file::MissKind;
 use program_run::Sums;
-use program_text::Programs;
+use program_text::{Limits, Programs};
 
 /// What a run says: its settings, its seed, and the sums of what was counted.
 #[derive(Clone, Copy)]
@@ -21,7 +21,7 @@ pub(crate) struct Row {
     pub policy: PolicyKind,
     pub misses: MissKind,
     pub exclusive: bool,
-    pub outstanding: Option<u64>,
+    pub limits: Limits,
     pub seed: u64,
     pub sums: Sums,
 }
@@ -43,7 +43,7 @@ pub(crate) fn row_of(programs: &Programs, seed: u64, sums: Sums) -> Row
         policy: config.policy(),
         misses: programs.misses,
         exclusive: config.exclusive(),
-        outstanding: programs.outstanding,
+        limits: programs.limits,
         seed,
         sums,
     }

@@ -2,9 +2,9 @@ ghost use Rattle.std.specs.Prelude.{◌≡◌, ◌==◌, ◌<◌, ◌++◌, ◌�
 ghost use Rattle.std.specs.List.{slice_split};
 
 use super::fault::SweepFault;
-use super::name::{is_name, is_outstanding, may_vary};
+use super::name::{Bound, bounds, is_bound, is_name, may_vary};
 use litmus_text::{ConfigLine, Settings, first_words, parse_number};
-use program_text::MOST_OUTSTANDING;
+use program_text::{MOST_OUTSTANDING, MOST_PACE};
 use std::alloc::{AllocError, Global};
 
 /// A setting that varies: the word with which its lines begin, and its values in their order.
@@ -91,14 +91,14 @@ fn push_value<'a>(
     Ok(())
 }
 
-// Whether the name and the value write a line that configures a machine, or the value is how many accesses may be under
-// way. It is written in one way, so that rows with the same value say the same.
+// Whether the name and the value write a line that configures a machine, or the value bounds a run. It is written in one
+// way, so that rows with the same value say the same.
 fn is_value(alloc: Global, name: &str, value: &str) -> Result<bool, AllocError> {
     if !is_canonical(value.as_bytes()) {
         return Ok(false);
     }
-    if is_outstanding(name.as_bytes()) {
-        return Ok(is_few(parse_number(value.as_bytes())));
+    if is_bound(name.as_bytes()) {
+        return Ok(may_bound(name, parse_number(value.as_bytes())));
     }
     let mut line = Vec::from_slice(alloc, name.as_bytes())?;
     line.extend_from_slice(b" ")?;
@@ -133,10 +133,14 @@ fn is_allowed(alloc: Global, line: &[u8]) -> Result<bool, AllocError> {
     }
 }
 
-// Whether so many accesses of a core may be under way.
-fn is_few(number: Option<u64>) -> bool {
-    match number {
-        Some(number) => 1 <= number && number <= MOST_OUTSTANDING,
-        None => false,
+// Whether the number bounds a run as the name says.
+fn may_bound(name: &str, number: Option<u64>) -> bool {
+    let Some(number) = number else {
+        return false;
+    };
+    if bounds(Bound::Pace, name.as_bytes()) {
+        number <= MOST_PACE
+    } else {
+        1 <= number && number <= MOST_OUTSTANDING
     }
 }

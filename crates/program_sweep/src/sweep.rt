@@ -5,11 +5,11 @@ ghost use Rattle.program_text.specs.Fault.{IsProgramText, programs_of, settings_
 ghost use Rattle.program_sweep.specs.Sweep.{IsRowFault, IsRowOf, MakesRow, MakesRows, PrintsRows, PrintsSweep};
 ghost use Rattle.program_sweep.specs.Read.{AreSettings, IsSweep, counts_of, rows_of, spans_of, values_of};
 ghost use Rattle.program_sweep.specs.Form.{text_of_row};
-ghost use Rattle.program_sweep.specs.Text.{IsOutstandingIn, lines_of_settings, with_settings};
+ghost use Rattle.program_sweep.specs.Text.{AreLimitsIn, IsBoundIn, lines_of_settings, with_settings};
 
 use super::fault::{Refusal, RowFault, SweepFault};
 use super::form::{RowForm, end_of, push_row};
-use super::name::is_outstanding;
+use super::name::{Bound, bounds, is_bound};
 use super::row::{Row, row_of};
 use super::seeds::Seeds;
 use super::setting::Setting;
@@ -17,7 +17,7 @@ use super::text::{configures, with_settings};
 use litmus_test::Progress;
 use litmus_text::{Lines, TextFault, parse_number};
 use program_run::{count_programs, limit};
-use program_text::Programs;
+use program_text::{Limits, Programs};
 use stats_report::write_text;
 use std::alloc::{AllocError, Global};
 use std::io::Write;
@@ -40,8 +40,8 @@ const ACCESSES: u64 = 20_000;
 pub struct Sweep<'a> {
     pub settings: Vec<Setting<'a>>,
     pub seeds: Seeds,
-    /// How many accesses of a core may be under way, where that is another number than the text's and no setting.
-    pub outstanding: Option<u64>,
+    /// What bounds each run, where that isn't what the text says, and no setting.
+    pub limits: Limits,
     /// How many there are.
     pub rows: u64,
 }
@@ -52,18 +52,18 @@ impl<'a> Sweep<'a> {
         alloc: Global,
         texts: &[&'a str],
         seeds: Seeds,
-        outstanding: Option<u64>,
+        limits: Limits,
     ) -> Result<Sweep<'a>, SweepFault<'a>>
-        ensures { IfOk result (IsSweep (map (λ text. text.now) texts.now) seeds outstanding) }
+        ensures { IfOk result (IsSweep (map (λ text. text.now) texts.now) seeds limits) }
     {
-        let mut settings = read_settings(alloc, texts, outstanding)?;
+        let mut settings = read_settings(alloc, texts, limits)?;
         let Some(rows) = lay_out(&mut settings, seeds.count) else {
             return Err(SweepFault::TooManyRows);
         };
         Ok(Sweep {
             settings,
             seeds,
-            outstanding,
+            limits,
             rows,
         })
     }
@@ -80,9 +80,14 @@ impl<'a> Sweep<'a> {
     }
 }
 
-fn is_set(settings: &[Setting<'_>], outstanding: Option<u64>, name: &str) -> bool {
-    let is_option = outstanding.is_some() && is_outstanding(name.as_bytes());
-    is_option || settings.iter().any(|setting| setting.name == name)
+// Whether a setting of this name stands among these, or is given already.
+fn is_set(settings: &[Setting<'_>], limits: Limits, name: &str) -> bool {
+    is_given(limits, name.as_bytes()) || settings.iter().any(|setting| setting.name == name)
+}
+
+fn is_given(limits: Limits, name: &[u8]) -> bool {
+    let is_limited = limits.is_limited() && bounds(Bound::Outstanding, name);
+    is_limited || (limits.is_paced() && bounds(Bound::Pace, name))
 }
 
 // Gives each setting its span, the last one first. Returns how many rows there are, if a sweep may have so many.
@@ -110,14 +115,14 @@ fn lay_out(settings: &mut Vec<Setting<'_>>, seeds: u64) -> Option<u64>
 fn read_settings<'a>(
     alloc: Global,
     texts: &[&'a str],
-    outstanding: Option<u64>,
+    limits: Limits,
 ) -> Result<Vec<Setting<'a>>, SweepFault<'a>>
     ensures { IfOk result (λ settings. AreSettings (map (λ text. text.now) texts.now) settings.items) }
 {
     let mut settings = Vec::new(alloc);
     for text in texts {
         let setting = Setting::read(alloc, *text)?;
-        if is_set(settings.as_slice(), outstanding, setting.name) {
+        if is_set(settings.as_slice(), limits, setting.name) {
             return Err(SweepFault::Twice(setting.name));
         }
         settings.push(setting)?;
@@ -360,9 +365,9 @@ fn make_row(alloc: Global, input: &[u8], sweep: &Sweep<'_>, number: u64) -> Resu
 {
     let settings = sweep.settings.as_slice();
     let seed = sweep.seeds.seed_in(number);
-    let most = outstanding_in(settings, sweep.outstanding, number);
+    let limits = limits_in(settings, sweep.limits, number);
     let mut programs = read_programs(alloc, input, settings, number)?;
-    limit(&mut programs, most);
+    limit(&mut programs, limits);
     run_row(alloc, &programs, seed)
 }
 
@@ -375,7 +380,7 @@ fn read_programs(
 ) -> Result<Programs, Refusal>
     ensures { IfOk result (λ programs. IsProgramText
         (with_settings (lines_of_settings settings.now number) (lines input.now))
-        (settings_of programs) programs.outstanding (programs_of programs)) }
+        (settings_of programs) programs.limits (programs_of programs)) }
 {
     let text = with_settings(alloc, input, settings, number)?;
     match Programs::read(alloc, text.as_slice()) {
@@ -393,12 +398,21 @@ fn run_row(alloc: Global, programs: &Programs, seed: u64) -> Result<Row, Refusal
     }
 }
 
-// How many accesses of a core may be under way in a row, where a setting or the command line says so.
-fn outstanding_in(settings: &[Setting<'_>], given: Option<u64>, row: u64) -> Option<u64>
-    ensures { IsOutstandingIn settings.now given row result }
+// What bounds the run of a row, where a setting or the command line says so.
+fn limits_in(settings: &[Setting<'_>], given: Limits, row: u64) -> Limits
+    ensures { AreLimitsIn settings.now given row result }
+{
+    Limits {
+        outstanding: bound_in(Bound::Outstanding, settings, given.outstanding, row),
+        pace: bound_in(Bound::Pace, settings, given.pace, row),
+    }
+}
+
+fn bound_in(bound: Bound, settings: &[Setting<'_>], given: Option<u64>, row: u64) -> Option<u64>
+    ensures { IsBoundIn bound settings.now given row result }
 {
     for setting in settings {
-        if is_outstanding(setting.name.as_bytes()) {
+        if bounds(bound, setting.name.as_bytes()) {
             return parse_number(setting.value_in(row).as_bytes());
         }
     }
@@ -409,7 +423,7 @@ fn outstanding_in(settings: &[Setting<'_>], given: Option<u64>, row: u64) -> Opt
 fn lines_added(settings: &[Setting<'_>]) -> usize {
     let mut count: usize = 0;
     for setting in settings {
-        if !is_outstanding(setting.name.as_bytes()) {
+        if !is_bound(setting.name.as_bytes()) {
             count = count.saturating_add(1);
         }
     }

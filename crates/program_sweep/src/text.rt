@@ -4,7 +4,7 @@ ghost use Rattle.std.specs.Prelude.{◌≡◌, ◌++◌, ◌&&◌, IfOk, OnOk, n
 ghost use Rattle.std.specs.Str.Lines.{lines};
 ghost use Rattle.program_sweep.specs.Text.{added_if, configures, ended, ends_settings, line_of_setting, lines_of_settings, with_settings};
 
-use super::name::{is_name, is_outstanding};
+use super::name::{is_bound, is_name};
 use super::setting::Setting;
 use litmus_text::{Lines, Words};
 use std::alloc::{AllocError, Global};
@@ -94,7 +94,7 @@ fn lines_of_settings(
 fn push_setting(text: &mut Vec<u8>, setting: &Setting<'_>, row: u64) -> Result<(), AllocError>
     ensures { OnOk result (text.new.items ≡ text.old.items ++ line_of_setting row setting.now) }
 {
-    if is_outstanding(setting.name.as_bytes()) {
+    if is_bound(setting.name.as_bytes()) {
         return Ok(());
     }
     text.extend_from_slice(setting.name.as_bytes())?;

@@ -74,7 +74,7 @@ pub ended_said : (said : Said) (block : Block) (outer : List Block) (after : Lis
     → said.blocks ≡ block ∷ outer → after ≡ with_steps (written_out block.start block.times) said.programs
     → let new : Said = record {
       settings = said.settings;
-      outstanding = said.outstanding;
+      limits = said.limits;
       programs = after;
       blocks = outer;
     } in
@@ -84,7 +84,7 @@ ended_said said block outer after stands is =
     (λ (bs : List Block).
     let new : Said = record {
       settings = said.settings;
-      outstanding = said.outstanding;
+      limits = said.limits;
       programs = after;
       blocks = outer;
     } in new ≡ after_end bs said)
@@ -93,7 +93,7 @@ ended_said said block outer after stands is =
     (λ (ps : List Program).
     let s : Said = record {
       settings = said.settings;
-      outstanding = said.outstanding;
+      limits = said.limits;
       programs = ps;
       blocks = outer;
     } in s)

@@ -20,7 +20,7 @@ use Rattle.program_text.specs.declared.reader.Block.{Block}
 use Rattle.program_text.specs.declared.programs.CoreProgram.{CoreProgram}
 use Rattle.program_text.specs.Fault.{program_of}
 use Rattle.program_text.specs.Judged.{access_faults, count_of, fault_of, first_so, has_program, has_too_many, is_early}
-use Rattle.program_text.specs.Judged.{is_first, lacks_core, lacks_range, lacks_word}
+use Rattle.program_text.specs.Judged.{is_first, is_limited, lacks_core, lacks_range, lacks_word}
 use Rattle.program_text.specs.Line.{begin, end, line_of, repeat, settle}
 use Rattle.program_text.specs.Text.{Program, Said, after_end, last_steps, said_access, said_line, spread}
 use Rattle.program_text.specs.Text.{with_steps}
@@ -294,6 +294,8 @@ begun_first said begun = and_first (is_early said) _ begun
 pub begun_line : (said : Said) (number : ℕ) (line : ReadLine) → (1 ≤ length said.blocks → 1 ≤ length said.programs)
     → fault_of said (line_of line) ≡ None → is_first (said_line said number (line_of line)) ≡ false
 begun_line said number (read_lines.Outstanding most) open_in none = and_last (is_early said)
+begun_line said number (read_lines.Pace most) open_in none =
+    ap (λ b. is_early said && b) (and_last (not (is_limited said.limits.outstanding))) ∙ and_last (is_early said)
 begun_line said number (read_lines.Core c) open_in none =
     begun_first (said_line said number (begin c))
     (ne_eqb (length (said_line said number (begin c)).programs) 0 (λ zero. omega arith))

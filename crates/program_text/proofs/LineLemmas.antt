@@ -11,7 +11,7 @@ use Rattle.program_text.specs.declared.keyword.Keyword.{Keyword}
 use Rattle.program_text.specs.declared.keyword.Keyword.TheVariants as keywords
 use Rattle.program_text.specs.Keyword.{name_of_keyword}
 use Rattle.program_text.specs.Range.{IsRange}
-use Rattle.program_text.specs.Line.{Line, setting, limit, begin, load, store, add, cas, settle, repeat, end}
+use Rattle.program_text.specs.Line.{Line, setting, limit, pace, begin, load, store, add, cas, settle, repeat, end}
 use Rattle.program_text.specs.Line.{WritesLine, WritesRange, WritesSetting}
 
 -- words of another number than a range and the parts don't write them
@@ -41,6 +41,7 @@ no_setting word words s other written = no_field_name word other (setting_name w
 
 keyword_is_other : (keyword : Keyword) → IsTrue (is_no_field (name_of_keyword keyword))
 keyword_is_other keywords.Outstanding = refl
+keyword_is_other keywords.Pace = refl
 keyword_is_other keywords.Core = refl
 keyword_is_other keywords.Load = refl
 keyword_is_other keywords.Store = refl
@@ -59,6 +60,9 @@ pub outstanding_sets_nothing : (words : List (List ℕ)) (s : ConfigLine)
     → WritesSetting (codes "outstanding" ∷ words) s → ⊥
 outstanding_sets_nothing words s =
     no_setting (codes "outstanding") words s (keyword_is_other keywords.Outstanding)
+
+pub pace_sets_nothing : (words : List (List ℕ)) (s : ConfigLine) → WritesSetting (codes "pace" ∷ words) s → ⊥
+pace_sets_nothing words s = no_setting (codes "pace") words s (keyword_is_other keywords.Pace)
 
 pub core_sets_nothing : (words : List (List ℕ)) (s : ConfigLine) → WritesSetting (codes "core" ∷ words) s → ⊥
 core_sets_nothing words s = no_setting (codes "core") words s (keyword_is_other keywords.Core)
@@ -89,6 +93,7 @@ pub no_line : (word : List ℕ) (words : List (List ℕ)) → ¬ IsFieldName wor
     → ((keyword : Keyword) → word ≢ name_of_keyword keyword) → (line : Line) → WritesLine (word ∷ words) line → ⊥
 no_line word words set other (setting s) h = set (setting_name word words s h)
 no_line word words set other (limit most) h = other keywords.Outstanding h.0
+no_line word words set other (pace most) h = other keywords.Pace h.0
 no_line word words set other (begin c) h = other keywords.Core h.0
 no_line word words set other (load first last) h = other keywords.Load h.0
 no_line word words set other (store first last value) h = other keywords.Store h.0
@@ -108,6 +113,7 @@ no_empty_line (setting (config_lines.Exclusive is_on)) h = h
 no_empty_line (setting (config_lines.Init w value)) h = h
 no_empty_line (setting (config_lines.Counter w)) h = h
 no_empty_line (limit most) h = h
+no_empty_line (pace most) h = h
 no_empty_line (begin c) h = h
 no_empty_line (load first last) h = h
 no_empty_line (store first last value) h = h
@@ -122,6 +128,7 @@ pub only_setting : (word : List ℕ) (words : List (List ℕ)) (line : Line) →
     → WritesLine (word ∷ words) line → (s : ConfigLine) × (line ≡ setting s)
 only_setting word words (setting s) named h = (s, refl)
 only_setting word words (limit most) named h = absurd (other_named keywords.Outstanding word named h.0)
+only_setting word words (pace most) named h = absurd (other_named keywords.Pace word named h.0)
 only_setting word words (begin c) named h = absurd (other_named keywords.Core word named h.0)
 only_setting word words (load first last) named h = absurd (other_named keywords.Load word named h.0)
 only_setting word words (store first last value) named h = absurd (other_named keywords.Store word named h.0)

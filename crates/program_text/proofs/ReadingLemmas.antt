@@ -15,6 +15,7 @@ use Rattle.litmus_text.specs.declared.fault.LineFault.{LineFault}
 use Rattle.litmus_text.specs.declared.fault.TextFault.{TextFault}
 use Rattle.litmus_text.specs.declared.fault.TextFault.TheVariants as text_faults
 use Rattle.litmus_text.specs.declared.settings.Settings.{Settings}
+use Rattle.program_text.specs.declared.programs.Limits.{Limits}
 use Rattle.program_text.specs.declared.programs.Programs.{Programs}
 use Rattle.litmus_text.proofs.FaultLemmas.{form_refuses}
 use Rattle.program_text.specs.Fault.{BeginOtherwise, HasFault, IsConfigFault, IsFault, IsFaultyLine, IsProgramText}
@@ -204,7 +205,7 @@ config_fault all left settings error reading others is = record {
 
 -- what was read is what the text says
 pub is_text : (text : List ℕ) (programs : Programs) → IsRead (statements_from 0 (lines text)) programs
-    → IsProgramText text (settings_of programs) programs.outstanding (programs_of programs)
+    → IsProgramText text (settings_of programs) programs.limits (programs_of programs)
 is_text text programs read =
     let reading = read.1.0 in
     record {
@@ -218,15 +219,15 @@ is_text text programs read =
     }
 
 -- .. and nothing else
-pub only_text : (text : List ℕ) (programs : Programs) (settings : Settings) (most : Option ℕ) (others : List Program)
-    → IsRead (statements_from 0 (lines text)) programs → IsProgramText text settings most others
-    → (settings ≡ settings_of programs) × (most ≡ programs.outstanding) × (others ≡ programs_of programs)
-only_text text programs settings most others read is =
+pub only_text : (text : List ℕ) (programs : Programs) (settings : Settings) (limits : Limits) (others : List Program)
+    → IsRead (statements_from 0 (lines text)) programs → IsProgramText text settings limits others
+    → (settings ≡ settings_of programs) × (limits ≡ programs.limits) × (others ≡ programs_of programs)
+only_text text programs settings limits others read is =
     let reading = read.1.0 in
     let same : is.said ≡ read.0 = reading.only is.said
     (subst (λ ss. Says said_nothing ss is.said) (sym (sym (append-nil reading.done) ∙ reading.split)) is.says) in (
       sym is.configured ∙ ap (λ (s : Said). s.settings) same ∙ read.1.1,
-      sym is.limited ∙ ap (λ (s : Said). s.outstanding) same ∙ read.1.2,
+      sym is.limited ∙ ap (λ (s : Said). s.limits) same ∙ read.1.2,
       is.in_order ∙ ap (λ (s : Said). reverse s.programs) same ∙ sym read.1.5,
     )
 

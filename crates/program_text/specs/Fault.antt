@@ -12,6 +12,7 @@ use Rattle.litmus_text.specs.declared.fault.TextFault.{TextFault}
 use Rattle.litmus_text.specs.declared.fault.TextFault.TheVariants as text_faults
 use Rattle.litmus_text.specs.declared.settings.Settings.{Settings}
 use Rattle.program_text.specs.declared.programs.CoreProgram.{CoreProgram}
+use Rattle.program_text.specs.declared.programs.Limits.{Limits}
 use Rattle.program_text.specs.declared.programs.Programs.{Programs}
 use Rattle.program_text.specs.declared.reader.Block.{Block}
 use Rattle.program_text.specs.Judged.{fault_of}
@@ -30,14 +31,14 @@ Says said (statement ∷ more) whole =
     (line : Line) × (WritesLine statement.1 line × (fault_of said line ≡ None)
     × Says (said_line said statement.0 line) more whole)
 
--- the text says these programs, in its order, and so many accesses of a core that may be under way, or none: its
--- configuration can be built, and each block has its end
-pub record IsProgramText (text : List ℕ) (settings : Settings) (most : Option ℕ) (programs : List Program) :
+-- the text says these programs, in its order, and what bounds a run: its configuration can be built, and each block has
+-- its end
+pub record IsProgramText (text : List ℕ) (settings : Settings) (limits : Limits) (programs : List Program) :
     Type 0 where
   pub said : Said
   pub says : Says said_nothing (statements_from 0 (lines text)) said
   pub configured : said.settings ≡ settings
-  pub limited : said.outstanding ≡ most
+  pub limited : said.limits ≡ limits
   pub checked : first_fault settings.config ≡ None
   pub closed : said.blocks ≡ []
   pub in_order : programs ≡ reverse said.programs

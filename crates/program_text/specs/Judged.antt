@@ -9,21 +9,26 @@ use Rattle.address_map.specs.declared.address.WordAddr.{WordAddr}
 use Rattle.litmus_text.specs.declared.fault.LineFault.{LineFault}
 use Rattle.litmus_text.specs.declared.fault.LineFault.TheVariants as line_faults
 use Rattle.program_text.specs.declared.programs.TheConstants.{MOST_ACCESSES, MOST_DEPTH, MOST_OUTSTANDING}
-use Rattle.program_text.specs.Line.{Line, setting, limit, begin, load, store, add, cas, settle, repeat, end}
+use Rattle.program_text.specs.declared.programs.TheConstants.{MOST_PACE}
+use Rattle.program_text.specs.Line.{Line, setting, limit, pace, begin, load, store, add, cas, settle, repeat, end}
 use Rattle.program_text.specs.Text.{Program, Said, after_end, said_access, said_settle}
 
 -- no program was begun, and no block is open
 abbrev pub is_early : Said → Bool
 is_early said = length said.programs == 0
 
--- how many accesses of a core may be under way was said
+-- a number was said
 abbrev pub is_limited : Option ℕ → Bool
 is_limited None = false
 is_limited (Some most) = true
 
 -- nothing was said but what configures
 abbrev pub is_first : Said → Bool
-is_first said = is_early said && not (is_limited said.outstanding)
+is_first said = is_early said && (not (is_limited said.limits.outstanding) && not (is_limited said.limits.pace))
+
+-- a program was begun, or this number was said
+abbrev pub is_late : Said → Option ℕ → Bool
+is_late said number = not (is_early said && not (is_limited number))
 
 abbrev pub is_closed : Said → Bool
 is_closed said = length said.blocks == 0
@@ -74,8 +79,11 @@ access_faults said first last op =
 abbrev pub faults_of : Said → Line → List (Bool × LineFault)
 faults_of said (setting line) = (not (is_first said), line_faults.LateConfiguration) ∷ []
 faults_of said (limit most) =
-    (not (is_first said), line_faults.LateConfiguration)
+    (is_late said said.limits.outstanding, line_faults.LateConfiguration)
     ∷ (most == 0 || nat_lt MOST_OUTSTANDING most, line_faults.OutOfRange) ∷ []
+faults_of said (pace most) =
+    (is_late said said.limits.pace, line_faults.LateConfiguration)
+    ∷ (nat_lt MOST_PACE most, line_faults.OutOfRange) ∷ []
 faults_of said (begin c) =
     (not (is_closed said), line_faults.NotACommand)
     ∷ (lacks_core said.settings.config c || has_program c said.programs, line_faults.OutOfRange) ∷ []

@@ -8,6 +8,7 @@ use Rattle.program_text.specs.declared.keyword.Keyword.TheVariants as keywords
 
 abbrev pub name_of_keyword : Keyword → List ℕ
 name_of_keyword keywords.Outstanding = codes "outstanding"
+name_of_keyword keywords.Pace = codes "pace"
 name_of_keyword keywords.Core = codes "core"
 name_of_keyword keywords.Load = codes "load"
 name_of_keyword keywords.Store = codes "store"
@@ -19,13 +20,14 @@ name_of_keyword keywords.End = codes "end"
 
 abbrev pub keywords_by_name : List (List ℕ × Keyword)
 keywords_by_name =
-    (codes "outstanding", keywords.Outstanding) ∷ (codes "core", keywords.Core) ∷ (codes "load", keywords.Load)
-    ∷ (codes "store", keywords.Store) ∷ (codes "add", keywords.Add) ∷ (codes "cas", keywords.Cas)
+    (codes "outstanding", keywords.Outstanding) ∷ (codes "pace", keywords.Pace) ∷ (codes "core", keywords.Core)
+    ∷ (codes "load", keywords.Load) ∷ (codes "store", keywords.Store) ∷ (codes "add", keywords.Add) ∷ (codes "cas", keywords.Cas)
     ∷ (codes "settle", keywords.Settle) ∷ (codes "repeat", keywords.Repeat) ∷ (codes "end", keywords.End) ∷ []
 
 -- how many words stand behind it
 abbrev pub words_behind : Keyword → ℕ
 words_behind keywords.Outstanding = 1
+words_behind keywords.Pace = 1
 words_behind keywords.Core = 1
 words_behind keywords.Load = 1
 words_behind keywords.Store = 2

@@ -13,6 +13,7 @@ use Rattle.program_text.specs.declared.line.Line.TheVariants as read_lines
 pub data Line : Type 0 where
   setting : ConfigLine → Line
   limit : ℕ → Line
+  pace : ℕ → Line
   begin : ℕ → Line
   load : ℕ → ℕ → Line
   store : ℕ → ℕ → ℕ → Line
@@ -39,6 +40,7 @@ WritesSetting words line = Writes words (parts_of_config_line line)
 abbrev pub WritesLine : List (List ℕ) → Line → Type 0
 WritesLine words (setting line) = WritesSetting words line
 WritesLine words (limit most) = Writes words (key (codes "outstanding") ∷ num most ∷ [])
+WritesLine words (pace most) = Writes words (key (codes "pace") ∷ num most ∷ [])
 WritesLine words (begin number) = Writes words (key (codes "core") ∷ num number ∷ [])
 WritesLine words (load first last) = WritesAccess (codes "load") words first last []
 WritesLine words (store first last value) = WritesAccess (codes "store") words first last (num value ∷ [])
@@ -57,6 +59,7 @@ BeginsAsSetting (word ∷ words) = IsFieldName word
 -- a line that was read, which configures nothing
 abbrev pub line_of : ReadLine → Line
 line_of (read_lines.Outstanding most) = limit most
+line_of (read_lines.Pace most) = pace most
 line_of (read_lines.Core number) = begin number
 line_of (read_lines.Access range ops.Load) = load range.first range.last
 line_of (read_lines.Access range (ops.Store value)) = store range.first range.last value

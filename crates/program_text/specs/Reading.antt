@@ -13,7 +13,7 @@ use Rattle.program_text.specs.declared.reader.Reader.{Reader}
 use Rattle.program_text.specs.Fault.{Says, Statement, programs_of, settings_of}
 use Rattle.program_text.specs.Judged.{count_of, fault_of}
 use Rattle.program_text.specs.Line.{Line, WritesLine, line_of}
-use Rattle.program_text.specs.Text.{Said, said_nothing}
+use Rattle.program_text.specs.Text.{Said, no_limits, said_nothing}
 
 -- what words are read as that begin as no setting: the one line that they write, or a fault where they write none
 pub record ReadsAs (words : List (List ℕ)) (result : Result ReadLine LineFault) : Type 0 where
@@ -25,13 +25,13 @@ pub record ReadsAs (words : List (List ℕ)) (result : Result ReadLine LineFault
 unfoldable pub said_by : Reader → Said
 said_by reader = record {
   settings = settings_of reader.programs;
-  outstanding = reader.programs.outstanding;
+  limits = reader.programs.limits;
   programs = reverse (programs_of reader.programs);
   blocks = reverse reader.blocks.items;
 }
 
 abbrev pub said_first : Settings → Said
-said_first settings = record { settings = settings; outstanding = None; programs = []; blocks = [] }
+said_first settings = record { settings = settings; limits = no_limits; programs = []; blocks = [] }
 
 -- its count is right, and not too great, a block is open only in a program, and its configuration is allowed
 pub record IsSoundReader (reader : Reader) : Type 0 where
@@ -56,7 +56,7 @@ pub record IsReading (all : List Statement) (said : Said) (left : List Statement
 abbrev pub IsRead : List Statement → Programs → Type 0
 IsRead all programs =
     (said : Said) × (IsReading all said [] × (said.settings ≡ settings_of programs)
-    × (said.outstanding ≡ programs.outstanding) × (first_fault programs.config ≡ None) × (said.blocks ≡ [])
+    × (said.limits ≡ programs.limits) × (first_fault programs.config ≡ None) × (said.blocks ≡ [])
     × (programs_of programs ≡ reverse said.programs))
 
 -- why a line isn't taken: there was no memory, or it is at fault in its place

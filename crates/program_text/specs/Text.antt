@@ -8,25 +8,30 @@ use Rattle.address_map.specs.declared.request.Op.TheVariants as ops
 use Rattle.litmus_text.specs.ConfigLine.{after_config_line}
 use Rattle.litmus_text.specs.Settings.{default_settings}
 use Rattle.litmus_text.specs.declared.settings.Settings.{Settings}
+use Rattle.program_text.specs.declared.programs.Limits.{Limits}
 use Rattle.program_text.specs.declared.programs.Step.{Step}
 use Rattle.program_text.specs.declared.programs.Step.TheVariants as step_kinds
 use Rattle.program_text.specs.declared.reader.Block.{Block}
-use Rattle.program_text.specs.Line.{Line, setting, limit, begin, load, store, add, cas, settle, repeat, end}
+use Rattle.program_text.specs.Line.{Line, setting, limit, pace, begin, load, store, add, cas, settle, repeat, end}
 
 -- a core and its steps
 abbrev pub Program : Type 0
 Program = CoreId × List Step
 
--- what was said so far: how many accesses of a core may be under way, the programs, the last one first, and the blocks
--- without an end, the innermost first
+-- what was said so far: what bounds a run, the programs, the last one first, and the blocks without an end, the
+-- innermost first
 pub record Said : Type 0 where
   pub settings : Settings
-  pub outstanding : Option ℕ
+  pub limits : Limits
   pub programs : List Program
   pub blocks : List Block
 
+-- nothing bounds a run
+abbrev pub no_limits : Limits
+no_limits = record { outstanding = None; pace = None }
+
 abbrev pub said_nothing : Said
-said_nothing = record { settings = default_settings; outstanding = None; programs = []; blocks = [] }
+said_nothing = record { settings = default_settings; limits = no_limits; programs = []; blocks = [] }
 
 -- the last program's steps change
 abbrev pub with_steps : (List Step → List Step) → List Program → List Program
@@ -72,7 +77,8 @@ after_end (block ∷ outer) said =
 -- what is said once the line with this number was read
 abbrev pub said_line : Said → ℕ → Line → Said
 said_line said number (setting line) = record said { settings = after_config_line said.settings line }
-said_line said number (limit most) = record said { outstanding = Some most }
+said_line said number (limit most) = record said { limits = record (said.limits) { outstanding = Some most } }
+said_line said number (pace most) = record said { limits = record (said.limits) { pace = Some most } }
 said_line said number (begin c) = record said { programs = (record { 0 = c }, []) ∷ said.programs }
 said_line said number (load first last) = said_access said first last ops.Load
 said_line said number (store first last value) = said_access said first last (ops.Store value)

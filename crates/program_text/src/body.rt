@@ -1,6 +1,6 @@
 ghost use Rattle.std.specs.Prelude.{◌≡◌, ◌≢◌, ℕ, OnOk, None, length};
 ghost use Rattle.program_text.specs.Judged.{access_faults, fault_of, first_so};
-ghost use Rattle.program_text.specs.Line.{begin, end, limit, line_of, repeat as repeat_line, settle};
+ghost use Rattle.program_text.specs.Line.{begin, end, limit, line_of, pace as pace_line, repeat as repeat_line, settle};
 ghost use Rattle.program_text.specs.Reading.{IsSoundReader, said_by};
 ghost use Rattle.program_text.specs.Text.{last_steps, said_access, said_line};
 
@@ -25,6 +25,10 @@ impl Reader {
                 self.limit(most);
                 Ok(())
             }
+            Line::Pace(most) => {
+                self.pace(most);
+                Ok(())
+            }
             Line::Core(core) => self.begin(alloc, core),
             Line::Access(range, op) => self.access(range, op),
             Line::Settle => self.settle(),
@@ -42,7 +46,16 @@ impl Reader {
         ensures said { (number : ℕ) → said_by self.new ≡ said_line (said_by self.old) number (limit most) }
         ensures counted { IsSoundReader self.new }
     {
-        self.programs.outstanding = Some(most);
+        self.programs.limits.outstanding = Some(most);
+    }
+
+    #[tactic(auto, unfolding(crate::specs::Reading::said_by))]
+    fn pace(&mut self, most: u64)
+        requires counted { IsSoundReader self.old }
+        ensures said { (number : ℕ) → said_by self.new ≡ said_line (said_by self.old) number (pace_line most) }
+        ensures counted { IsSoundReader self.new }
+    {
+        self.programs.limits.pace = Some(most);
     }
 
     #[tactic(auto, unfolding(crate::specs::Reading::said_by))]

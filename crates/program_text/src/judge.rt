@@ -4,17 +4,18 @@ ghost use Rattle.std.specs.List.{list_any};
 ghost use Rattle.program_text.specs.declared.programs.CoreProgram.{CoreProgram};
 ghost use Rattle.program_text.specs.Fault.{programs_of};
 ghost use Rattle.program_text.specs.Judged.{access_faults, count_of, fault_of, first_so, has_counter, has_program};
-ghost use Rattle.program_text.specs.Judged.{has_too_many, is_closed, is_early, is_first, is_limited, lacks_core};
+ghost use Rattle.program_text.specs.Judged.{has_too_many, is_closed, is_early, is_late, lacks_core};
 ghost use Rattle.program_text.specs.Judged.{lacks_range, lacks_word};
 ghost use Rattle.program_text.specs.Judged.{overwrites as overwrites_word};
-ghost use Rattle.program_text.specs.Line.{begin, end, limit, line_of, repeat, settle};
+ghost use Rattle.program_text.specs.Line.{begin, end, limit, line_of, pace, repeat, settle};
 ghost use Rattle.program_text.specs.Reading.{IsSoundReader, said_by};
 ghost use Rattle.address_map.specs.declared.request.Op.{Op};
 ghost use Rattle.program_text.specs.Text.{after_end, said_access, said_settle};
 ghost use Rattle.program_text.specs.declared.programs.TheConstants.{MOST_ACCESSES, MOST_DEPTH, MOST_OUTSTANDING};
+ghost use Rattle.program_text.specs.declared.programs.TheConstants.{MOST_PACE};
 
 use super::line::Line;
-use super::programs::{MOST_ACCESSES, MOST_DEPTH, MOST_OUTSTANDING};
+use super::programs::{MOST_ACCESSES, MOST_DEPTH, MOST_OUTSTANDING, MOST_PACE};
 use super::range::Range;
 use super::reader::Reader;
 use address_map::Op;
@@ -29,6 +30,7 @@ impl Reader {
     {
         match line {
             Line::Outstanding(most) => self.may_limit(most),
+            Line::Pace(most) => self.may_pace(most),
             Line::Core(core) => self.may_begin(core),
             Line::Access(range, op) => self.may_access(range, op),
             Line::Settle => self.may_settle(),
@@ -42,10 +44,24 @@ impl Reader {
         ensures may { OnOk result (fault_of (said_by self.now) (limit most) ≡ None) }
         ensures fault { IfErr result (λ fault. fault_of (said_by self.now) (limit most) ≡ Some fault) }
     {
-        if self.is_begun() {
+        if self.may_not_limit() {
             return Err(LineFault::LateConfiguration);
         }
         if is_no_limit(most) {
+            return Err(LineFault::OutOfRange);
+        }
+        Ok(())
+    }
+
+    #[tactic(auto, using(crate::proofs::JudgedLemmas::in_order), unfolding(crate::specs::Judged::fault_of))]
+    fn may_pace(&self, most: u64) -> Result<(), LineFault>
+        ensures may { OnOk result (fault_of (said_by self.now) (pace most) ≡ None) }
+        ensures fault { IfErr result (λ fault. fault_of (said_by self.now) (pace most) ≡ Some fault) }
+    {
+        if self.may_not_pace() {
+            return Err(LineFault::LateConfiguration);
+        }
+        if is_no_pace(most) {
             return Err(LineFault::OutOfRange);
         }
         Ok(())
@@ -131,22 +147,20 @@ impl Reader {
         Ok(())
     }
 
-    // Whether something was said that doesn't configure.
+    // Whether it is too late to say how many accesses of a core may be under way.
     #[tactic(auto, unfolding(crate::specs::Reading::said_by))]
-    fn is_begun(&self) -> bool
-        ensures { result ≡ not (is_first (said_by self.now)) }
+    fn may_not_limit(&self) -> bool
+        ensures { result ≡ is_late (said_by self.now) (said_by self.now).limits.outstanding }
     {
-        !(self.is_early() && self.has_no_limit())
+        !(self.is_early() && !self.programs.limits.is_limited())
     }
 
-    // Whether nothing was said of how many accesses of a core may be under way.
-    fn has_no_limit(&self) -> bool
-        ensures { result ≡ not (is_limited self.now.programs.outstanding) }
+    // .. how many deliveries each slice makes.
+    #[tactic(auto, unfolding(crate::specs::Reading::said_by))]
+    fn may_not_pace(&self) -> bool
+        ensures { result ≡ is_late (said_by self.now) (said_by self.now).limits.pace }
     {
-        match self.programs.outstanding {
-            Some(_) => false,
-            None => true,
-        }
+        !(self.is_early() && !self.programs.limits.is_paced())
     }
 
     // Whether no program was begun.
@@ -271,6 +285,13 @@ impl Reader {
     {
         (self.steps as u64).saturating_add(more) > MOST_ACCESSES as u64
     }
+}
+
+// Whether so many deliveries are too many.
+fn is_no_pace(most: u64) -> bool
+    ensures { result ≡ nat_lt MOST_PACE most }
+{
+    most > MOST_PACE
 }
 
 // Whether so many accesses can't be under way.

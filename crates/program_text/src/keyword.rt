@@ -9,6 +9,7 @@ use litmus_text::value_named;
 #[derive(Clone, Copy)]
 pub(super) enum Keyword {
     Outstanding,
+    Pace,
     Core,
     Load,
     Store,
@@ -20,8 +21,9 @@ pub(super) enum Keyword {
 }
 
 /// Each keyword, by its name.
-static KEYWORDS: [(&[u8], Keyword); 9] = [
+static KEYWORDS: [(&[u8], Keyword); 10] = [
     (b"outstanding", Keyword::Outstanding),
+    (b"pace", Keyword::Pace),
     (b"core", Keyword::Core),
     (b"load", Keyword::Load),
     (b"store", Keyword::Store),

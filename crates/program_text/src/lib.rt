@@ -7,7 +7,8 @@
 #![tactic(auto)]
 
 pub use programs::{
-    Access, CoreProgram, MOST_ACCESSES, MOST_DEPTH, MOST_OUTSTANDING, Programs, Step,
+    Access, CoreProgram, Limits, MOST_ACCESSES, MOST_DEPTH, MOST_OUTSTANDING, MOST_PACE, Programs,
+    Step,
 };
 
 mod body;

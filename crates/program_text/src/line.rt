@@ -14,6 +14,8 @@ use litmus_text::LineFault;
 pub(super) enum Line {
     /// How many accesses of a core may be under way.
     Outstanding(u64),
+    /// How many deliveries each slice makes behind an access.
+    Pace(u64),
     Core(u64),
     /// An access to each word of the range, ascending.
     Access(Range, Op),
@@ -47,6 +49,7 @@ fn parse_called(keyword: Keyword, words: &[&[u8]]) -> Result<Line, LineFault>
 {
     match keyword {
         Keyword::Outstanding => parse_outstanding(words),
+        Keyword::Pace => parse_pace(words),
         Keyword::Core => parse_core(words),
         Keyword::Load => parse_load(words),
         Keyword::Store => parse_store(words),
@@ -64,6 +67,14 @@ fn parse_outstanding(words: &[&[u8]]) -> Result<Line, LineFault>
     ensures form { IfErr result (λ fault. IsCountFault 1 (map (λ w. w.now) words.now) fault) }
 {
     Ok(Line::Outstanding(number_alone(words)?))
+}
+
+#[tactic(auto, using(crate::proofs::LineLemmas::pace_sets_nothing))]
+fn parse_pace(words: &[&[u8]]) -> Result<Line, LineFault>
+    ensures reads { ReadsAs (codes "pace" ∷ map (λ w. w.now) words.now) result }
+    ensures form { IfErr result (λ fault. IsCountFault 1 (map (λ w. w.now) words.now) fault) }
+{
+    Ok(Line::Pace(number_alone(words)?))
 }
 
 #[tactic(auto, using(crate::proofs::LineLemmas::core_sets_nothing))]

@@ -3,6 +3,7 @@ ghost use Rattle.std.specs.Str.Lines.{lines};
 ghost use Rattle.litmus_text.specs.ConfigLine.{after_config_line};
 ghost use Rattle.litmus_text.specs.Statement.{statements_from};
 ghost use Rattle.litmus_text.specs.declared.settings.Settings.{Settings};
+ghost use Rattle.program_text.specs.declared.programs.Limits.{Limits};
 ghost use Rattle.program_text.specs.Fault.{BeginOtherwise, IsFault, IsProgramText, Statement as ReadStatement};
 ghost use Rattle.program_text.specs.Fault.{programs_of, settings_of};
 ghost use Rattle.program_text.specs.Judged.{fault_of, is_first};
@@ -12,7 +13,7 @@ ghost use Rattle.program_text.specs.Reading.{said_in};
 ghost use Rattle.program_text.specs.Text.{Program, said_line};
 
 use super::line::Line;
-use super::programs::{MOST_DEPTH, Programs};
+use super::programs::{Limits, MOST_DEPTH, Programs};
 use arrayvec::ArrayVec;
 use litmus_text::{ConfigLine, LineFault, Settings, Statement, Statements, TextFault};
 use std::alloc::Global;
@@ -40,10 +41,10 @@ impl Programs {
     /// Reads programs. The only faults are want of memory, a faulty line, and a configuration that is refused.
     pub fn read(alloc: Global, input: &[u8]) -> Result<Programs, TextFault>
         ensures written { IfOk result
-            (λ programs. IsProgramText input.now (settings_of programs) programs.outstanding (programs_of programs)) }
-        ensures only { IfOk result (λ programs. (settings : Settings) (most : Option ℕ) (others : List Program)
-            → IsProgramText input.now settings most others
-            → (settings ≡ settings_of programs) × (most ≡ programs.outstanding) × (others ≡ programs_of programs)) }
+            (λ programs. IsProgramText input.now (settings_of programs) programs.limits (programs_of programs)) }
+        ensures only { IfOk result (λ programs. (settings : Settings) (limits : Limits) (others : List Program)
+            → IsProgramText input.now settings limits others
+            → (settings ≡ settings_of programs) × (limits ≡ programs.limits) × (others ≡ programs_of programs)) }
         ensures fault { IfErr result (IsFault (statements_from 0 (lines input.now))) }
     {
         let mut statements = Statements::of(input);
@@ -111,7 +112,10 @@ impl Reader {
             programs: Programs {
                 config,
                 misses,
-                outstanding: None,
+                limits: Limits {
+                    outstanding: None,
+                    pace: None,
+                },
                 cores: Vec::new(alloc),
             },
             blocks: ArrayVec::new(),

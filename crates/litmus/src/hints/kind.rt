@@ -79,7 +79,7 @@ fn kind_of(first: &[u8], next: &[u8]) -> Option<TextKind> {
     match first {
         b"lockup-trace" | b"entry" => Some(TextKind::Trace),
         b"lockup-litmus" | b"thread" | b"rounds" | b"movers" => Some(TextKind::LitmusTest),
-        b"outstanding" => Some(TextKind::Programs),
+        b"outstanding" | b"pace" => Some(TextKind::Programs),
         b"core" if is_of_program(next) => Some(TextKind::Programs),
         _ if Slot::Name.behind(first).is_some() => Some(TextKind::Script),
         _ => None,

@@ -35,6 +35,7 @@ pub(super) enum Place {
     Rounds,
     Movers,
     Outstanding,
+    Pace,
     Number,
     /// The name of a reply.
     Reply,
@@ -154,6 +155,7 @@ impl Place {
             Place::Rounds => Some((1, 10000)),
             Place::Movers => Some((0, 4)),
             Place::Outstanding => Some((1, 64)),
+            Place::Pace => Some((0, 64)),
             _ => None,
         }
     }
@@ -167,7 +169,7 @@ impl Place {
     const fn text(self) -> &'static str {
         match self {
             Place::ProgramName => {
-                "core, load, store, add, cas, settle, repeat, end, outstanding, or a field of the configuration"
+                "core, load, store, add, cas, settle, repeat, end, outstanding, pace, or a field of the configuration"
             }
             Place::TestName => {
                 "thread, load, store, add, cas, settle, evict, forbid, rounds, movers, or a field of the configuration"
@@ -183,7 +185,9 @@ impl Place {
             Place::Word => "a word",
             Place::Range => "a word or FIRST..LAST",
             Place::Tag => "a tag",
-            Place::Rounds | Place::Movers | Place::Outstanding | Place::Number => "a number",
+            Place::Rounds | Place::Movers | Place::Outstanding | Place::Pace | Place::Number => {
+                "a number"
+            }
             Place::Reply => "a name of 1 to 16 small letters and digits, a letter first",
         }
     }

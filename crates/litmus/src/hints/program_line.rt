@@ -12,6 +12,7 @@ const MOST_DEPTH: usize = 8;
 pub(super) fn program_places(name: &[u8]) -> Option<&'static [Place]> {
     match name {
         b"outstanding" => Some(&[Place::Outstanding]),
+        b"pace" => Some(&[Place::Pace]),
         b"core" => Some(&[Place::Core]),
         b"load" => Some(&[Place::Range]),
         b"store" | b"add" => Some(&[Place::Range, Place::Number]),
@@ -35,8 +36,8 @@ pub(super) fn misfit<'a>(line: WrongLine<'a, '_>) -> Option<Misfit<'a>> {
 
 fn place_of_setting(name: &[u8]) -> Wanted {
     Wanted::Text(match name {
-        b"outstanding" => "once, before the first 'core'",
-        _ => "before 'outstanding' and the first 'core'",
+        b"outstanding" | b"pace" => "once, before the first 'core'",
+        _ => "before 'outstanding', 'pace' and the first 'core'",
     })
 }
 

@@ -124,6 +124,10 @@ to N of its accesses are under way then, from 1 to 64. One that stalls is tried 
 counts for each core the primary and secondary misses, the stalls by their reason, and the most and
 the mean of miss registers and of targets in use.
 
+With 'pace N' there, or --pace N, each slice makes up to N deliveries behind each access, from 0 to
+64, each drawn from those that it can be asked for; the report then says how many moves there were,
+and how many of them delivered.
+
 Accesses and deliveries come in an order that is drawn from the seed. The report has a row for each
 core and for each line. A miss is counted by its cause: cold (the core never had the line), replaced
 (it gave the line up), upgrade (it may read the line and is to write it), and true or false (it lost
@@ -131,8 +135,8 @@ the line to another's write; true where another core wrote the very word since).
 
 With --set, --seeds or --csv each combination of values and seeds is a run, and each run a row: FILE,
 all settings, the seed, and the sums over all lines. A setting is cores, slices, lines, sets, ways,
-mshrs, targets, writebacks, policy, misses, exclusive or outstanding, and takes the place of the
-text's. The last setting varies fastest, and the seeds faster still. Runs are side by side on all
+mshrs, targets, writebacks, policy, misses, exclusive, outstanding or pace, and takes the place of
+the text's. The last setting varies fastest, and the seeds faster still. Runs are side by side on all
 processors. With --json the rows are one value of JSON. In rows and in JSON the names of columns say
 what they count: true is misses_true_sharing there, and register stalls_register.
 

@@ -123,8 +123,7 @@ pub const NEVER: &str = "\
 ";
 
 /// .. and messages that never come without the exclusive state.
-pub const EXCLUSIVE_ALONE: &str = "\
-
+pub const EXCLUSIVE_ALONE: &str = "
 ; IS_D, Fwd-GetS: a reader never owns the line, without the exclusive state
 (push 1)
 (assert (invariant before))

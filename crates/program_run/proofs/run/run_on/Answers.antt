@@ -8,7 +8,7 @@ returns-then-is_over-clause-done g c =
     let programs = c.args.programs.now in
     let same = c.in_ok-run.ensures.config ∙ c.in_ok-runner.ensures.config in
     let usages = rw same at c.in_ok-usages.ensures in
-    let printed = rw (c.tally.ensures, c.as_slice.ensures.value, usages, c.is_limited-limited.ensures) at
+    let printed = rw (c.tally.ensures, c.as_slice.ensures.value, usages) at
     c.in_ok-print_report.ensures.printed in
     programs_run (g.F.MissFile.bound_by config) programs c.args.form c.args.seed 0 c.in_ok-runner.runner
     c.run.new.runner _ _ c.in_ok-runner.ensures c.in_ok-run.ensures

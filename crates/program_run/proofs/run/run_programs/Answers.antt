@@ -4,22 +4,21 @@ use Rattle.litmus_script.specs.Machine.{bound_of}
 use Rattle.program_text.specs.Fault.{IsProgramText, programs_of, settings_of}
 use Rattle.program_text.specs.declared.programs.Programs.{Programs}
 use Rattle.program_run.specs.Run.{IsProgramsRun, limited_to}
-use Rattle.program_run.proofs.RunLemmas.{limited_bound}
 use Rattle.program_run.proofs.run.run_programs.Goals as goal
 
 pub returns-clause-done : goal.returns-clause-done
 returns-clause-done g c =
     let contents = g.W.Write.contents in
-    let says = λ (programs : Programs). IsProgramText c.args.input.now (settings_of programs) programs.outstanding
+    let says = λ (programs : Programs). IsProgramText c.args.input.now (settings_of programs) programs.limits
     (programs_of programs) in
     let runs = λ (programs : Programs) (status : ℕ). IsProgramsRun (bound_of programs.misses programs.config)
-    (limited_to c.args.outstanding programs) c.args.form c.args.seed status (contents c.args.out.now)
+    (limited_to c.args.given programs) c.args.form c.args.seed status (contents c.args.out.now)
     (contents c.run_read.new.out) in
     let these = c.in_ok-programs.programs in
     IfOk-weaker c.run_read.result _ (λ status. (programs : Programs) × says programs × runs programs status)
     (λ status is. (
       these,
       c.in_ok-programs.ensures.written,
-      limited_bound c.args.outstanding these c.args.form c.args.seed status _ _ (rw c.limit.ensures at is),
+      rw c.limit.ensures at is,
     ))
     c.run_read.ensures.done

@@ -8,14 +8,14 @@ returns c =
     let sweep = c.args.sweep.now in
     let settings = c.as_slice-settings.ensures.value in
     let says = rw settings at c.in_ok-programs.ensures in
-    let outstanding = rw settings at c.outstanding_in-most.ensures in
+    let bounded = rw settings at c.limits_in-limits.ensures in
     let has = rw (c.limit.ensures, c.seed_in-seed.ensures) at c.run_row.ensures in
     IfOk-weaker c.run_row.result _ (HasRun input sweep c.args.number)
     (λ row is. record {
       read = c.in_ok-programs.programs;
       says = says;
-      most = c.outstanding_in-most.result;
-      outstanding = outstanding;
+      limits = c.limits_in-limits.result;
+      bounded = bounded;
       has = is;
     })
     has

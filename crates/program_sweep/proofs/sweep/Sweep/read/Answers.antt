@@ -10,5 +10,5 @@ returns c = record {
   rows = c.in-Some.ensures.rows;
   few = c.in-Some.ensures.few;
   same_seeds = refl;
-  same_number = refl;
+  same_limits = refl;
 }

@@ -30,7 +30,7 @@ pub returns-then-not-begins_as_setting-clause-only : goal.returns-then-not-begin
 returns-then-not-begins_as_setting-clause-only c =
     let reading = rw c.in-Some.ensures.steps at c.loop-statement.invariant in
     IfOk-weaker c.read.result _ _
-    (λ programs read settings most others is. only_text c.args.input.now programs settings most others
+    (λ programs read settings limits others is. only_text c.args.input.now programs settings limits others
     (read (statements_from 0 (lines c.args.input.now)) (rw c.in_ok-reader.ensures.said reading)) is)
     c.read.ensures.read
 
@@ -60,7 +60,7 @@ returns-clause-written c =
     c.in_ok-reader-2.ensures.counted.checked (rw c.in_default.ensures.steps.0 at c.loop-statement.invariant))
 
 pub returns-clause-only : goal.returns-clause-only
-returns-clause-only c = λ settings most others is.
-    only_text c.args.input.now c.in_ok-reader-2.reader.programs settings most others
+returns-clause-only c = λ settings limits others is.
+    only_text c.args.input.now c.in_ok-reader-2.reader.programs settings limits others
     (fresh_read (statements_from 0 (lines c.args.input.now)) c.in_ok-reader-2.reader _ c.in_ok-reader-2.ensures.said
     c.in_ok-reader-2.ensures.counted.checked (rw c.in_default.ensures.steps.0 at c.loop-statement.invariant)) is

@@ -17,6 +17,11 @@ returns-in-Outstanding-clause-said c =
     c.limit.ensures.said c.args.number
     ∙ ap (λ (l : Line). said_line (said_by c.args.self.now) c.args.number (line_of l)) (sym c.in-Outstanding.is)
 
+pub returns-in-Pace-clause-said : goal.returns-in-Pace-clause-said
+returns-in-Pace-clause-said c =
+    c.pace.ensures.said c.args.number
+    ∙ ap (λ (l : Line). said_line (said_by c.args.self.now) c.args.number (line_of l)) (sym c.in-Pace.is)
+
 pub returns-in-Settle-clause-said : goal.returns-in-Settle-clause-said
 returns-in-Settle-clause-said c =
     on_ok_weaker c.settle.result

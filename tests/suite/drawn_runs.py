@@ -4,8 +4,8 @@ next word of the generator draws from what may come next, and there is no furthe
 
 Programs are drawn at random: of one to four cores and slices, small arrays and miss files, with and without the
 exclusive state, with one access of a core under way and with several, with waits, with and without deliveries that each
-slice makes behind an access; and over more than 32 lines of a slice, where rings are kept short. Without that rule, or with another number in it, another move would be drawn, which a test
-of its own asks for.
+slice makes behind an access; and over more than 32 lines of a slice, where rings are kept short. Without that rule, or
+with another number in it, another move would be drawn, which a test of its own asks for.
 """
 import random
 import tempfile

@@ -72,10 +72,12 @@ is_look commands.Waiting = true
 is_look commands.Show = true
 is_look command = false
 
--- it printed this; any other command, as a look at the machine, prints nothing and does nothing
+-- it printed this; a pump, whose deliveries are steps of their own, prints and does nothing as one step; no other command
+-- is made as a step that shows
 abbrev pub IsShown : Bool → Config → Command → List PartsView → List PartsView → List ℕ → Type 0
 IsShown true config command old new text = IsPrinted config command old new (Some []) (Some text)
-IsShown false config command old new text = (new ≡ old) × (text ≡ [])
+IsShown false config (commands.Pump calls) old new text = (new ≡ old) × (text ≡ [])
+IsShown false config command old new text = ⊥
 
 -- The slices of a machine made the step: one of them answered the command's call, or something was shown. What a pump
 -- left is said behind its deliveries, which are steps of their own.

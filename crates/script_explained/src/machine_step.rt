@@ -1,5 +1,5 @@
 //! The step that a machine makes for a command.
-ghost use Rattle.std.specs.Prelude.{◌≡◌, ◌/◌, ◌<◌, length, IfErr, IfOk};
+ghost use Rattle.std.specs.Prelude.{◌≡◌, ◌/◌, ◌<◌, length, true, IfErr, IfOk};
 ghost use Rattle.litmus_script.specs.Machine.{OneSlice};
 ghost use Rattle.litmus_script.specs.Play.{IsOfRun};
 ghost use Rattle.litmus_text.specs.Command.{IsInRange, HasCore};
@@ -33,7 +33,12 @@ pub fn make_step<F: MissFile>(
         Command::Deliver(pick) => Ok(deliver_step(machine, pick)),
         Command::Hand { core, slice } => Ok(hand_step(machine, core, slice)),
         Command::Word(word) => Ok(word_step(machine, word)),
-        _ => show(alloc, machine, command),
+        Command::Pump(_) => Ok(Step::Show {
+            command,
+            text: Vec::new(alloc),
+        }),
+        Command::State(_) | Command::Log(_) | Command::Stats | Command::Waiting | Command::Show =>
+            show(alloc, machine, command),
     }
 }
 
@@ -43,7 +48,8 @@ fn show<F: MissFile>(
     machine: &mut Machine<F>,
     command: Command,
 ) -> Result<Step, TextFault>
-    requires { IsInRange machine.old.config command }
+    requires range { IsInRange machine.old.config command }
+    requires look { is_look command ≡ true }
     ensures config { machine.new.config ≡ machine.old.config }
     ensures fault { IfErr result IsOfRun }
     ensures step { IfOk result
@@ -58,31 +64,19 @@ fn shown<F: MissFile>(
     machine: &mut Machine<F>,
     command: Command,
 ) -> Result<Vec<u8>, TextFault>
-    requires { IsInRange machine.old.config command }
+    requires range { IsInRange machine.old.config command }
+    requires look { is_look command ≡ true }
     ensures config { machine.new.config ≡ machine.old.config }
     ensures fault { IfErr result IsOfRun }
     ensures shown { IfOk result (λ text. IsShown (is_look command) machine.old.config command
         machine.old.slices.items machine.new.slices.items text.items) }
 {
     let mut text = Vec::new(alloc);
-    if !is_look(command) {
-        return Ok(text);
-    }
     match machine.run(command, &mut text) {
         Ok(()) => Ok(text),
         // writing to memory fails for want of it
         Err(_) => Err(TextFault::NoMemory),
     }
-}
-
-/// Whether a command only shows something, at once.
-const fn is_look(command: Command) -> bool
-    ensures { result ≡ is_look command }
-{
-    matches!(
-        command,
-        Command::State(_) | Command::Log(_) | Command::Stats | Command::Waiting | Command::Show
-    )
 }
 
 fn issue_step<F: MissFile>(

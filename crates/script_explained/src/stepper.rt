@@ -54,7 +54,7 @@ pub struct Stepper<F: MissFile, S: StepWriter> {
     pub machine: Machine<F>,
     pub writer: S,
     pub alloc: Global,
-    /// The place in the script of the command that is played.
+    /// The place in the script of the pump that is played.
     number: usize,
 }
 

@@ -141,11 +141,11 @@ look_same config (commands.Log slice) old new text shown = shown.printed.0
 look_same config commands.Stats old new text shown = shown.printed.0
 look_same config commands.Waiting old new text shown = shown.printed.0
 look_same config commands.Show old new text shown = shown.printed.0
-look_same config (commands.Issue core request) old new text shown = shown.0
-look_same config (commands.Evict core line) old new text shown = shown.0
-look_same config (commands.Deliver pick) old new text shown = shown.0
-look_same config (commands.Hand core slice) old new text shown = shown.0
-look_same config (commands.Word word) old new text shown = shown.0
+look_same config (commands.Issue core request) old new text shown = absurd shown
+look_same config (commands.Evict core line) old new text shown = absurd shown
+look_same config (commands.Deliver pick) old new text shown = absurd shown
+look_same config (commands.Hand core slice) old new text shown = absurd shown
+look_same config (commands.Word word) old new text shown = absurd shown
 look_same config (commands.Pump calls) old new text shown = shown.0
 
 step_rest : (config : Config) (step : Step) (old new : List PartsView) → AreSlices config old

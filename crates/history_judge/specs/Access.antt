@@ -1,0 +1,41 @@
+-- What an access of a history found in its word, what it left there, and the entry of a trace that performs it.
+use Rattle.std.specs.Prelude.{ℕ, ◌+◌, ◌%◌, ◌^◌, ◌==◌, if◌then◌else◌, Option, Some, None}
+use Rattle.address_map.specs.declared.address.WordAddr.{WordAddr}
+use Rattle.address_map.specs.declared.request.Op.{Op}
+use Rattle.address_map.specs.declared.request.Op.TheVariants as ops
+use Rattle.slice_log.specs.declared.entry.Entry.{Entry}
+use Rattle.history_judge.specs.declared.access.Access.{Access}
+
+-- The entry that performs an access. Its seq is the access's place in the history, so a core's entries stand in its
+-- order where their seqs ascend.
+abbrev pub entry_of : WordAddr → ℕ → Access → Entry
+entry_of word number a = record {
+  op = a.op;
+  word = word;
+  seq = number;
+  reply = a.reply;
+  since = 0;
+  core = a.core;
+  tag = 0;
+}
+
+-- the value that an access found
+abbrev pub found_from : Op → ℕ → Option ℕ
+found_from (ops.Store new) reply = None
+found_from ops.Load reply = Some reply
+found_from (ops.Add delta) reply = Some reply
+found_from (ops.Cas expect new) reply = Some reply
+
+abbrev pub found_by : Access → Option ℕ
+found_by a = found_from a.op a.reply
+
+-- the value now, where it isn't the one that was
+abbrev pub changed : ℕ → ℕ → Option ℕ
+changed was now = if was == now then None else Some now
+
+-- the value that an access with this reply left in its word, where it isn't the one that it found
+abbrev pub left_by : Op → ℕ → Option ℕ
+left_by ops.Load reply = None
+left_by (ops.Store new) reply = Some (new % 2 ^ 64)
+left_by (ops.Add delta) reply = changed reply ((reply + delta) % 2 ^ 64)
+left_by (ops.Cas expect new) reply = changed reply (if reply == expect then new % 2 ^ 64 else reply)

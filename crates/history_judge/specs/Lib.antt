@@ -1,0 +1,5 @@
+pub mod Access
+pub mod Order
+pub mod Writers
+pub mod Before
+pub mod Judged

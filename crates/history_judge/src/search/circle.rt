@@ -1,0 +1,179 @@
+//! Ways from a cluster around to itself.
+
+use super::super::refutation::{Link, Why};
+use super::graph::{Graph, Zone};
+use super::lists::{NONE, at, put};
+use std::alloc::{AllocError, Global};
+
+const CORES: usize = 256;
+
+/// How many clusters are tried as the first of a circle.
+const TRIES: usize = 8;
+
+/// Returns the ways around a short circle of clusters, of which one leads through this cluster.
+pub fn shortest(alloc: Global, graph: &Graph, root: usize) -> Result<Vec<Link>, AllocError> {
+    let mut best = found(alloc, graph, root)?;
+    for turn in 0..TRIES {
+        let Some(link) = best.get(turn) else {
+            break;
+        };
+        let other = found(alloc, graph, at(&graph.cluster, link.first, NONE))?;
+        if !other.is_empty() && other.len() < best.len() {
+            best = other;
+        }
+    }
+    Ok(best)
+}
+
+// The shortest ways around from a cluster.
+fn found(alloc: Global, graph: &Graph, root: usize) -> Result<Vec<Link>, AllocError> {
+    let mut paths = Paths::of(alloc, graph, root)?;
+    for turn in 0..graph.count {
+        let cluster = at(&paths.reached, turn, NONE);
+        if cluster == NONE {
+            break;
+        }
+        if let Some(link) = paths.back(graph, cluster) {
+            return paths.around(alloc, graph, link);
+        }
+        paths.go_on(graph, cluster)?;
+    }
+    Ok(Vec::new(alloc))
+}
+
+/// The shortest ways from a cluster to others.
+#[derive(Drop)]
+struct Paths {
+    root: usize,
+    /// The last access of the root by each core.
+    last: Vec<usize>,
+    /// The clusters that were reached, in that order, and the way to each.
+    reached: Vec<usize>,
+    ways: Vec<Option<Link>>,
+    /// The accesses behind which all of their core were reached.
+    is_passed: Vec<bool>,
+    /// How many of `by_begin` were reached.
+    begun: usize,
+}
+
+impl Paths {
+    fn of(alloc: Global, graph: &Graph, root: usize) -> Result<Self, AllocError> {
+        let mut last = vec![in alloc; NONE; CORES]?;
+        for (_, place) in graph.members.row(root) {
+            put(&mut last, at(&graph.core, *place, NONE), *place);
+        }
+        let mut reached = Vec::new(alloc);
+        reached.push(root)?;
+        Ok(Paths {
+            root,
+            last,
+            reached,
+            ways: vec![in alloc; None; graph.count]?,
+            is_passed: vec![in alloc; false; graph.core.len()]?,
+            begun: 0,
+        })
+    }
+
+    // The way from another cluster to the root, if there is one.
+    fn back(&self, graph: &Graph, cluster: usize) -> Option<Link> {
+        if cluster == self.root {
+            return None;
+        }
+        let (zone, root) = (graph.zone(cluster), graph.zone(self.root));
+        if zone.end < root.begin {
+            return Some(Link {
+                first: zone.ended,
+                last: root.begun,
+                why: Why::Interval,
+            });
+        }
+        for (_, first) in graph.members.row(cluster) {
+            let last = at(&self.last, at(&graph.core, *first, NONE), NONE);
+            if last != NONE && *first < last {
+                return Some(Link {
+                    first: *first,
+                    last,
+                    why: Why::Core,
+                });
+            }
+        }
+        None
+    }
+
+    // To all clusters that this one comes before.
+    fn go_on(&mut self, graph: &Graph, cluster: usize) -> Result<(), AllocError> {
+        for (_, first) in graph.members.row(cluster) {
+            self.go_along_core(graph, *first)?;
+        }
+        self.go_along_times(graph, cluster)
+    }
+
+    fn go_along_core(&mut self, graph: &Graph, first: usize) -> Result<(), AllocError> {
+        let mut last = at(&graph.next, first, NONE);
+        for _ in 0..graph.next.len() {
+            if at(&self.is_passed, last, true) {
+                return Ok(());
+            }
+            put(&mut self.is_passed, last, true);
+            self.reach(
+                graph,
+                Link {
+                    first,
+                    last,
+                    why: Why::Core,
+                },
+            )?;
+            last = at(&graph.next, last, NONE);
+        }
+        Ok(())
+    }
+
+    // All clusters that began something after this one had ended something.
+    fn go_along_times(&mut self, graph: &Graph, cluster: usize) -> Result<(), AllocError> {
+        let Zone { end, ended, .. } = graph.zone(cluster);
+        for place in self.begun..graph.by_begin.len() {
+            let (key, other) = at(&graph.by_begin, place, (u64::MAX, NONE));
+            if u64::MAX - key <= end {
+                return Ok(());
+            }
+            self.begun = place.saturating_add(1);
+            let last = graph.zone(other).begun;
+            self.reach(
+                graph,
+                Link {
+                    first: ended,
+                    last,
+                    why: Why::Interval,
+                },
+            )?;
+        }
+        Ok(())
+    }
+
+    fn reach(&mut self, graph: &Graph, way: Link) -> Result<(), AllocError> {
+        let cluster = at(&graph.cluster, way.last, NONE);
+        let is_new = matches!(self.ways.get(cluster), Some(None));
+        if is_new && cluster != self.root && cluster != 0 {
+            put(&mut self.ways, cluster, Some(way));
+            self.reached.push(cluster)?;
+        }
+        Ok(())
+    }
+
+    // The ways from the root to the last one, and that one.
+    fn around(&self, alloc: Global, graph: &Graph, last: Link) -> Result<Vec<Link>, AllocError> {
+        let mut ways = Vec::new(alloc);
+        ways.push(last)?;
+        let mut way = last;
+        for _ in 0..self.ways.len() {
+            let cluster = at(&graph.cluster, way.first, NONE);
+            let Some(before) = at(&self.ways, cluster, None) else {
+                break;
+            };
+            ways.push(before)?;
+            way = before;
+        }
+        ways.reverse();
+        Ok(ways)
+    }
+}

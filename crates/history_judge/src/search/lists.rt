@@ -1,0 +1,25 @@
+//! Lists of places, read and written without a thought of their ends.
+
+/// The place of nothing.
+pub const NONE: usize = usize::MAX;
+
+/// Returns what stands at a place, or this past the end.
+pub fn at<T: Copy>(items: &[T], place: usize, other: T) -> T {
+    match items.get(place) {
+        Some(item) => *item,
+        None => other,
+    }
+}
+
+/// Writes to a place, unless it is past the end.
+pub fn put<T: Copy>(items: &mut [T], place: usize, item: T) {
+    if place < items.len() {
+        items[place] = item;
+    }
+}
+
+/// Adds one to the count at a place.
+pub fn count(counts: &mut [usize], place: usize) {
+    let more = at(counts, place, 0).saturating_add(1);
+    put(counts, place, more);
+}

@@ -1,4 +1,5 @@
 pub mod Check
+pub mod Judge
 pub mod Pages
 pub mod Table
 pub mod Tests

@@ -18,6 +18,7 @@
 //!   programs of a workload.
 //! - [`check_trace`] judges a trace, and answers its [`Verdict`]; [`run_check`] writes what that comes to,
 //!   [`run_check_explained`] with what was expected of an entry at fault, and [`run_check_json`] both as JSON.
+//!   [`run_judge`] judges it whatever the order in which several cores' entries stand.
 //! - [`run_table`] prints a table of the protocol with its legend, [`run_table_cells`] its cells as values of JSON, and
 //!   [`run_export`] the protocol of one line as a model, and [`run_queries`] as queries.
 //!
@@ -28,6 +29,7 @@
 pub use check::{run_check, run_check_explained, run_check_json};
 pub use export::{run_export, run_queries};
 pub use hints::{TextKind, hint};
+pub use judge::{JudgeForm, run_judge};
 pub use litmus_chart::{line_count, run_chart, run_svg};
 pub use litmus_command_line::{
     CommandLine, ModelCores, ScriptForm, Table, read_line, read_settings,
@@ -55,8 +57,10 @@ pub use tests::{run_litmus, run_litmus_as, run_walk, write_walk};
 pub use trace_check::{Reason, Verdict, check_trace};
 
 mod check;
+mod contradiction;
 mod export;
 mod hints;
+mod judge;
 mod legend;
 mod pages;
 mod table;

@@ -144,6 +144,13 @@ abbrev pub check_app : App
 check_app =
     with_rules (new_app (codes "check")) (file_rule ∷ flag_rule (codes "json") ∷ flag_rule (codes "explain") ∷ [])
 
+-- the subcommand that judges one as histories
+abbrev pub judge_app : App
+judge_app =
+    with_rules (new_app (codes "judge"))
+    (file_rule ∷ number_rule_or (codes "limit") (codes "1000000") ∷ number_rule (codes "witness")
+    ∷ lone_rule (codes "json") ∷ flag_rule (codes "explain") ∷ [])
+
 -- the subcommand that prints one of these tables
 abbrev pub table_app : Bor (List (Bor Text)) → App
 table_app names =
@@ -202,6 +209,7 @@ table_program names =
     (with_subcommand
     (with_subcommand
     (with_subcommand
+    (with_subcommand
     (with_subcommand (with_subcommand (with_subcommand top_app script_app.top) try_app.top) chart_app.top)
     page_app.top)
     litmus_app.top)
@@ -210,6 +218,7 @@ table_program names =
     generate_app.top)
     test_app.top)
     check_app.top)
+    judge_app.top)
     (table_app names).top
 
 abbrev pub lockup_app : Bor (List (Bor Text)) → Bor (List (Bor Text)) → Bor (List (Bor Text)) → App
@@ -351,6 +360,10 @@ IsLine name rows (command_lines.Test file first explain) =
     × (first ≡ is_given (codes "first") rows) × (explain ≡ is_given (codes "explain") rows)
 IsLine name rows (command_lines.Check file json explain) =
     (name ≡ codes "check") × (first_of (codes "FILE") rows ≡ Some file.now)
+    × (json ≡ is_given (codes "json") rows) × (explain ≡ is_given (codes "explain") rows)
+IsLine name rows (command_lines.Judge file limit witness json explain) =
+    (name ≡ codes "judge") × (first_of (codes "FILE") rows ≡ Some file.now)
+    × IsNumberOf (codes "limit") rows limit × IsNumberIfGiven (codes "witness") rows witness
     × (json ≡ is_given (codes "json") rows) × (explain ≡ is_given (codes "explain") rows)
 IsLine name rows (command_lines.Table table exclusive json) =
     (name ≡ codes "table") × (first_of (codes "TABLE") rows ≡ Some (word_of table))

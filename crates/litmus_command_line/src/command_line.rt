@@ -62,9 +62,10 @@ pub enum CommandLine<'a> {
         json: bool,
         explain: bool,
     },
-    /// Run the programs in this file in the order that the seed draws, with so many accesses of a core under way and so many
-    /// deliveries of each slice behind an access, if a number is given, and not as many as the text says. With `json`, report as a value of JSON. With `script`, print
-    /// what was asked of the machine as a script, and with `page` as that script's page, and no report.
+    /// Run the programs in this file in the order that the seed draws, with so many accesses of a core under way and up
+    /// to so many deliveries of each slice behind an access, if a number is given, and not as many as the text says.
+    /// With `json`, report as a value of JSON. With `script`, print what was asked of the machine as a script, and with
+    /// `page` as that script's page, and no report.
     Run {
         file: &'a str,
         outstanding: Option<u64>,
@@ -102,6 +103,16 @@ pub enum CommandLine<'a> {
     /// error.
     Check {
         file: &'a str,
+        json: bool,
+        explain: bool,
+    },
+    /// Judge the trace in this file, in which the order of several cores' entries isn't known. At most `limit` steps are
+    /// taken to try orders of a word. With `witness`, print the order of the word with this number, and with `json`, the
+    /// verdict as a value of JSON. With `explain`, explain an error.
+    Judge {
+        file: &'a str,
+        limit: u64,
+        witness: Option<u64>,
         json: bool,
         explain: bool,
     },
@@ -193,6 +204,7 @@ fn asked<'a>(matches: &ArgMatches<'a>) -> Option<CommandLine<'a>>
         "generate" => generate_line(given),
         "test" => test_line(given),
         "check" => check_line(given),
+        "judge" => judge_line(given),
         "table" => table_line(given),
         "export" => export_line(given),
         _ => None,
@@ -361,6 +373,23 @@ fn check_line<'a>(given: &ArgMatches<'a>) -> Option<CommandLine<'a>>
     let explain = is_given(given, "explain");
     Some(CommandLine::Check {
         file,
+        json,
+        explain,
+    })
+}
+
+fn judge_line<'a>(given: &ArgMatches<'a>) -> Option<CommandLine<'a>>
+    ensures { IfSome result (IsLine (codes "judge") (rows_of (found_of given.now))) }
+{
+    let file = file_of(given)?;
+    let limit = number_of(given, "limit")?;
+    let witness = number_if_given(given, "witness")?;
+    let json = is_given(given, "json");
+    let explain = is_given(given, "explain");
+    Some(CommandLine::Judge {
+        file,
+        limit,
+        witness,
         json,
         explain,
     })

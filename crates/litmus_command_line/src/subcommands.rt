@@ -21,6 +21,7 @@ ghost use Rattle.litmus_command_line.specs.CommandLine.{
   flag_rule,
   form_rule,
   generate_app,
+  judge_app,
   litmus_app,
   lone_rule,
   lone_text_rule,
@@ -72,6 +73,7 @@ pub(crate) fn lockup<'a>(alloc: Global) -> Result<Command<'a>, AllocError>
     let program = with(program, generate(alloc));
     let program = with(program, test(alloc));
     let program = with(program, check(alloc));
+    let program = with(program, judge(alloc));
     let program = with(program, table(alloc));
     with(program, export(alloc))
 }
@@ -378,7 +380,7 @@ fn run<'a>(alloc: Global) -> Result<Command<'a>, AllocError>
         few_or_none(
             alloc,
             "pace",
-            "How many deliveries each slice makes behind an access, and not as the text says",
+            "Up to how many deliveries each slice makes behind an access, and not as the text says",
         ),
     );
     let command = and(
@@ -514,6 +516,48 @@ fn check<'a>(alloc: Global) -> Result<Command<'a>, AllocError>
             "Print behind the verdict what was expected, and explain an error",
         ),
     )
+}
+
+fn judge<'a>(alloc: Global) -> Result<Command<'a>, AllocError>
+    ensures { IfOk result (Reads judge_app) }
+{
+    let command = begin(
+        alloc,
+        "judge",
+        "Judges a trace whose order of several cores isn't known: is there one that explains each reply?",
+        help::JUDGE,
+    );
+    let command = and(
+        command,
+        file(alloc, "The trace: one entry a line; - is standard input"),
+    );
+    let command = and(
+        command,
+        number_or(
+            alloc,
+            "limit",
+            "How many steps may be taken to try orders of a word whose values repeat",
+            "1000000",
+        ),
+    );
+    let command = and(
+        command,
+        number(
+            alloc,
+            "witness",
+            "Print the order that was found of the accesses of word N, as a trace",
+        ),
+    );
+    let command = and_made(
+        command,
+        lone_flag(
+            alloc,
+            "json",
+            "Print the verdict as one value of JSON",
+            &["witness"],
+        ),
+    );
+    and(command, flag(alloc, "explain", EXPLAIN_ERROR))
 }
 
 fn table<'a>(alloc: Global) -> Result<Command<'a>, AllocError>

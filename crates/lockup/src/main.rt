@@ -10,11 +10,11 @@ use clap::Error;
 use clap::error::ErrorKind;
 use head::head_of;
 use litmus::{
-    CommandLine, Form, Limits, OutcomeForm, ScriptForm, Seeds, Size, SweepFault, TextKind, hint,
-    line_count, page_schedule, page_walk, read_line, run_beside, run_chart, run_check,
-    run_check_explained, run_check_json, run_explained, run_export, run_json, run_litmus_as,
-    run_page, run_programs, run_queries, run_script, run_svg, run_table, run_table_cells, run_test,
-    run_trace, run_walk, run_waves, write_schedule, write_walk,
+    CommandLine, Form, JudgeForm, Limits, OutcomeForm, ScriptForm, Seeds, Size, SweepFault,
+    TextKind, hint, line_count, page_schedule, page_walk, read_line, run_beside, run_chart,
+    run_check, run_check_explained, run_check_json, run_explained, run_export, run_json, run_judge,
+    run_litmus_as, run_page, run_programs, run_queries, run_script, run_svg, run_table,
+    run_table_cells, run_test, run_trace, run_walk, run_waves, write_schedule, write_walk,
 };
 use litmus_text::TextFault;
 use painted::Painted;
@@ -282,7 +282,9 @@ const fn explained_kind(line: CommandLine<'_>) -> Option<TextKind> {
             Some(TextKind::LitmusTest)
         }
         CommandLine::Run { explain: true, .. } => Some(TextKind::Programs),
-        CommandLine::Check { explain: true, .. } => Some(TextKind::Trace),
+        CommandLine::Check { explain: true, .. } | CommandLine::Judge { explain: true, .. } => {
+            Some(TextKind::Trace)
+        }
         _ => None,
     }
 }
@@ -303,7 +305,8 @@ fn file_of<'a>(line: CommandLine<'a>) -> Option<&'a str> {
         | CommandLine::Walk { file, .. }
         | CommandLine::Run { file, .. }
         | CommandLine::Sweep { file, .. }
-        | CommandLine::Check { file, .. } => Some(file),
+        | CommandLine::Check { file, .. }
+        | CommandLine::Judge { file, .. } => Some(file),
         CommandLine::Try { file } => file,
         CommandLine::Generate { .. }
         | CommandLine::Table { .. }
@@ -440,6 +443,12 @@ where
         CommandLine::Check { json: true, .. } => run_check_json(alloc, input, out),
         CommandLine::Check { explain: true, .. } => run_check_explained(alloc, input, out),
         CommandLine::Check { .. } => run_check(alloc, input, out),
+        CommandLine::Judge {
+            limit,
+            witness,
+            json,
+            ..
+        } => run_judge(alloc, input, limit, judge_form(witness, json), out),
         CommandLine::Table {
             table,
             exclusive,
@@ -493,6 +502,15 @@ const fn outcome_form(json: bool) -> OutcomeForm {
         OutcomeForm::Json
     } else {
         OutcomeForm::Table
+    }
+}
+
+/// How a judgement is printed.
+const fn judge_form(witness: Option<u64>, json: bool) -> JudgeForm {
+    match witness {
+        Some(word) => JudgeForm::Witness(word),
+        None if json => JudgeForm::Json,
+        None => JudgeForm::Text,
     }
 }
 

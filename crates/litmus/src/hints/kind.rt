@@ -20,7 +20,7 @@ pub(super) const fn reader_of(kind: TextKind) -> &'static str {
             "the text is a litmus test: 'lockup litmus' and 'lockup walk' read it"
         }
         TextKind::Programs => "the text has programs: 'lockup run' reads it",
-        TextKind::Trace => "the text is a trace: 'lockup check' reads it",
+        TextKind::Trace => "the text is a trace: 'lockup check' and 'lockup judge' read it",
     }
 }
 

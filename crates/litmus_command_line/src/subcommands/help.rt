@@ -190,6 +190,22 @@ Documents: docs/TEXTS.md (the lines of a trace, what makes one illegal)
 
 Example: lockup check --explain examples/illegal_trace.txt";
 
+/// What stands below the options of `judge`.
+pub const JUDGE: &str = "\
+Each core's entries of a word stand in its order, and those of several cores are mixed in any way.
+Of each word it is asked whether its accesses have an order that keeps each core's and explains each
+reply (coherent), or none (incoherent, status 1), with what contradicts itself:
+
+  incoherent word 9
+  line 3 before line 4: core 1 asked for both
+  ..
+
+Where values repeat, orders have to be tried: undecided, status 1, if the limit is reached.
+
+Documents: docs/TEXTS.md (judging without an order)
+
+Example: lockup judge examples/incoherent_trace.txt";
+
 /// What stands below the options of `export`.
 pub const EXPORT: &str = "\
 murphi: each rule is one row of the tables by which the slices run, and has its cell's name, so a

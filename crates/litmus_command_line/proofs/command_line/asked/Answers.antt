@@ -73,6 +73,13 @@ returns-in-check c =
     let found = c.in_ok-name.ensures.rows in
     asked_of c.args.matches.now (codes "check") rows c.check_line.result named found c.check_line.ensures
 
+pub returns-in-judge : goal.returns-in-judge
+returns-in-judge c =
+    let named = rw c.in-judge.is at c.in_ok-name.ensures.name in
+    let rows = rows_of (found_of c.in_ok-name.given.now) in
+    let found = c.in_ok-name.ensures.rows in
+    asked_of c.args.matches.now (codes "judge") rows c.judge_line.result named found c.judge_line.ensures
+
 pub returns-in-table : goal.returns-in-table
 returns-in-table c =
     let named = rw c.in-table.is at c.in_ok-name.ensures.name in

@@ -25,6 +25,8 @@ returns c =
     c.with-program-9.ensures in
     let check = with_known c.with-program-9.result c.check.result c.with-program-10.result _ _ test c.check.ensures
     c.with-program-10.ensures in
-    let table = with_table c.with-program-10.result c.table.result c.with-program-11.result _ (λ names. refl) check c.table.ensures
+    let judge = with_known c.with-program-10.result c.judge.result c.with-program-11.result _ _ check c.judge.ensures
     c.with-program-11.ensures in
-    with_export c.with-program-11.result c.export.result c.with.result table c.export.ensures c.with.ensures
+    let table = with_table c.with-program-11.result c.table.result c.with-program-12.result _ (λ names. refl) judge c.table.ensures
+    c.with-program-12.ensures in
+    with_export c.with-program-12.result c.export.result c.with.result table c.export.ensures c.with.ensures

@@ -1,0 +1,245 @@
+"""What `judge` says of traces whose entries of several cores stand in any order: of several words, drawn and spoiled, a
+word is incoherent exactly where a search through all orders finds none; each step of a contradiction is tried against
+the trace; logs of runs with their cores' lines mixed are coherent; and a text is refused as `check` refuses it."""
+import json
+import random
+import re
+
+from harness import each, lockup, same, seconds, want
+from harness.schema import fits
+from suite.histories import Access, History, drawn, spoiled
+from suite.json_values import schema
+
+BY_HAND = [
+    ("nothing", "lockup-trace 2\n", 0, "coherent 0 entries\n"),
+    ("a_load_before_its_store", "lockup-trace no-since\nentry 1 0 0 load 9 5\nentry 0 0 0 store 9 5 0\n", 0, "coherent 2 entries\n"),
+    ("an_initial_value", "lockup-trace no-since\ninit 9 3\nentry 1 0 0 load 9 3\nentry 0 0 0 add 8 1 0\n", 0, "coherent 2 entries\n"),
+    ("a_value_of_nobody", "lockup-trace no-since\nentry 1 0 0 load 9 5\nentry 2 0 0 load 9 6\nentry 0 0 0 store 9 5 0\n", 1,
+     "incoherent word 9\nline 3: got 6, which no access left\n"),
+    ("two_adds", "lockup-trace no-since\n# both find 0\nentry 0 0 0 add 9 1 0\nentry 1 0 0 add 9 1 0\n", 1,
+     "incoherent word 9\nline 3 before line 4: line 3 got 0, which the word began with, and line 4 changed it\n"
+     "line 4 before line 3: line 4 got 0, which the word began with, and line 3 changed it\nso line 3 before itself\n"),
+    ("a_word_that_goes_back", "lockup-trace no-since\nentry 0 0 0 store 9 1 0\nentry 1 0 0 load 9 1\nentry 1 1 0 load 9 0\n", 1,
+     "incoherent word 9\nline 4 before line 2: line 4 got 0, which the word began with, and line 2 changed it\n"
+     "line 2 before line 3: line 3 got 1, which line 2 alone left\nline 3 before line 4: core 1 asked for both\n"
+     "so line 4 before itself\n"),
+    # its own store is the core's first, so a stale load is incoherent though another core's value would fit
+    ("another_word_is_coherent", "lockup-trace no-since\nentry 0 0 0 store 8 1 0\nentry 0 1 0 store 9 7 0\nentry 0 2 0 load 9 0\n", 1,
+     "incoherent word 9\nline 4 before line 3: line 4 got 0, which the word began with, and line 3 changed it\n"
+     "line 3 before line 4: core 0 asked for both\nso line 4 before itself\n"),
+    # what SEQ says means nothing: the lines are the core's order
+    ("a_seq_that_goes_back", "lockup-trace no-since\nentry 0 9 0 store 9 1 0\nentry 0 3 0 load 9 1\n", 0, "coherent 2 entries\n"),
+]
+
+
+@each(lambda: BY_HAND)
+def test_by_hand(_: str, text: str, status: int, wanted: str) -> None:
+    same("judge", (status, wanted, ""), tuple(lockup("judge", "-", text=text)))
+
+
+# ---- drawn traces
+
+def entry(word: int, access: Access) -> str:
+    values = " ".join(map(str, access.words))
+    return f"entry {access.core} 0 0 {access.kind} {word} {values + ' ' if values else ''}{access.reply}"
+
+
+def text_of(words: dict[int, History], lines: list[tuple[int, Access]]) -> str:
+    init = [f"init {word} {history.initial}" for word, history in sorted(words.items()) if history.initial]
+    return "\n".join(["lockup-trace no-since", *init, *(entry(word, access) for word, access in lines), ""])
+
+
+def shuffled(draw: random.Random, words: dict[int, History]) -> list[tuple[int, Access]]:
+    """Returns the accesses of all words, each word's in its order."""
+    turns = [word for word, history in words.items() for _ in history.accesses]
+    draw.shuffle(turns)
+    queues = {word: iter(history.accesses) for word, history in words.items()}
+    return [(word, next(queues[word])) for word in turns]
+
+
+STEP = re.compile(r"line (\d+) before line (\d+): (?:"
+                  r"(?P<core>core (\d+) asked for both)|"
+                  r"(?P<source>line (\d+) got (\d+), which line (\d+) alone left)|"
+                  r"(?P<initial>line (\d+) got (\d+), which the word began with, and line (\d+) changed it)|"
+                  r"(?P<raised>line (\d+) got (\d+), which line (\d+) left and line (\d+) overwrote)|"
+                  r"(?P<lowered>line (\d+) got (\d+), which line (\d+) left, and line (\d+) was not between))")
+
+
+class Contradiction:
+    """Follows the lines of a contradiction about a word of a trace."""
+
+    def __init__(self, initial: int, accesses: dict[int, Access]) -> None:
+        self.initial, self.accesses, self.before = initial, accesses, set()
+
+    def writers(self, value: int) -> list[int]:
+        return [line for line, it in self.accesses.items() if self.changes(line) and it.left(it.reply) == value]
+
+    def changes(self, line: int) -> bool:
+        it = self.accesses[line]
+        return it.kind == "store" or it.left(it.reply) != it.reply
+
+    def got(self, line: int) -> int | None:
+        it = self.accesses[line]
+        return None if it.kind == "store" else it.reply
+
+    def follows(self, said: str) -> bool:
+        """Whether the step follows, from the trace and from those before it."""
+        match = STEP.fullmatch(said)
+        if match is None:
+            return False
+        one, other = int(match[1]), int(match[2])
+        a, b = self.accesses[one], self.accesses[other]
+        numbers = [int(it) for it in re.findall(r"\d+", said.split(": ", 1)[1])]
+        if match["core"]:
+            sound = a.core == b.core == numbers[0] and one < other
+        elif match["source"]:
+            sound = numbers == [other, self.got(other), one] and self.writers(numbers[1]) == [one] and numbers[1] != self.initial
+        elif match["initial"]:
+            sound = (numbers == [one, self.initial, other] and self.got(one) == self.initial and not self.writers(self.initial)
+                     and self.changes(other))
+        elif match["raised"]:
+            reader, value, source, _ = numbers
+            sound = (reader, numbers[3]) == (one, other) and (source, other) in self.before and self.reads(reader, value, source)
+        else:
+            reader, value, source, between = numbers
+            sound = (source, between) == (other, one) and (one, reader) in self.before and self.reads(reader, value, source)
+        self.before |= {(one, other)} | {(x, other) for x, y in self.before if y == one}
+        return sound
+
+    def reads(self, reader: int, value: int, source: int) -> bool:
+        return self.got(reader) == value and value != self.initial and self.writers(value) == [source]
+
+
+def is_sound(said: list[str], initial: int, accesses: dict[int, Access]) -> bool:
+    alone = re.fullmatch(r"line (\d+): got (\d+), which no access left", said[0])
+    if alone:
+        line, value = int(alone[1]), int(alone[2])
+        told = Contradiction(initial, accesses)
+        return len(said) == 1 and told.got(line) == value != initial and not told.writers(value)
+    told = Contradiction(initial, accesses)
+    end = re.fullmatch(r"so line (\d+) before itself", said[-1])
+    return all([told.follows(it) for it in said[:-1]]) and end is not None and (int(end[1]), int(end[1])) in told.before
+
+
+@seconds(60)
+def test_drawn_traces() -> None:
+    draw = random.Random("judged")
+    counts = {"coherent": 0, "incoherent": 0, "undecided": 0}
+    for _ in range(400):
+        words = {}
+        for word in draw.sample(range(40), draw.randrange(1, 4)):
+            history = drawn(draw, draw.randrange(1, 8), draw.randrange(1, 5), draw.random() < .7, False)
+            words[word] = spoiled(draw, history) if draw.random() < .4 else history
+        lines = shuffled(draw, words)
+        text = text_of(words, lines)
+        ran = lockup("judge", "-", text=text)
+        first, *said = ran.out.splitlines()
+        verdict = first.split()[0]
+        counts[verdict] += 1
+        wrong = [word for word, history in words.items() if not history.is_coherent()]
+        what = f"{ran.out}of\n{text}"
+        if verdict == "coherent":
+            want(not wrong and (ran.status, first) == (0, f"coherent {len(lines)} entries"), what)
+        elif verdict == "incoherent":
+            word = int(first.split()[2])
+            behind = text.count("\n") - len(lines) + 1
+            accesses = {number: it for number, (of, it) in enumerate(lines, behind) if of == word}
+            want(word in wrong and ran.status == 1 and is_sound(said, words[word].initial, accesses), what)
+        else:
+            want(ran.status == 1 and any(not words[word].has_known_sources() for word in words), what)
+    want(min(counts["coherent"], counts["incoherent"]) > 100, f"too few of one kind: {counts}")
+
+
+def test_a_limit() -> None:
+    """Where values repeat, orders are tried: in too few steps nothing is found, and in more an order is."""
+    text = "lockup-trace no-since\n" + "".join(f"entry {core} 0 0 store 9 {value} 0\n" for core in range(6) for value in (1, 2))
+    text += "".join(f"entry {core} 0 0 load 9 2\n" for core in range(6))
+    same("few steps", (1, "undecided word 9\n", ""), tuple(lockup("judge", "--limit", "3", "-", text=text)))
+    same("many", (0, "coherent 18 entries\n", ""), tuple(lockup("judge", "-", text=text)))
+
+
+# ---- runs of our own
+
+def log_of(workload: str, cores: int) -> str:
+    """Returns the log of a run of a workload on a machine of one slice, as a trace."""
+    programs = lockup("generate", workload, "--cores", str(cores), "--size", "12").out
+    script = lockup("run", "-", "--outstanding", "4", "--script", text=programs).out
+    said = lockup("script", "-", text=f"{script}log 0\n").out
+    return said[said.index("lockup-trace"):]
+
+
+@each(lambda: [(f"{workload}_{cores}", workload, cores) for workload in ("lock", "ring", "histogram", "zipf") for cores in (2, 8)])
+def test_runs(_: str, workload: str, cores: int) -> None:
+    draw = random.Random(f"{workload} {cores}")
+    head, *lines = log_of(workload, cores).splitlines()
+    init = [line for line in lines if line.startswith("init")]
+    entries = [line for line in lines if line.startswith("entry")]
+    by_core = {}
+    for line in entries:
+        by_core.setdefault(line.split()[1], []).append(line)
+    turns = [line.split()[1] for line in entries]
+    draw.shuffle(turns)
+    queues = {core: iter(it) for core, it in by_core.items()}
+    text = "\n".join([head, *init, *(next(queues[core]) for core in turns), ""])
+    ran = lockup("judge", "-", text=text)
+    want(ran.out.startswith(("coherent", "undecided")), ran.out)
+    if workload in ("lock", "histogram"):
+        return
+    same("judge", (0, f"coherent {len(entries)} entries\n", ""), tuple(ran))
+
+
+@seconds(60)
+def test_witnesses() -> None:
+    """The order of a word is one of its accesses, and legal in each core's order."""
+    draw = random.Random("witness")
+    for _ in range(60):
+        words = {word: drawn(draw, draw.randrange(1, 20), draw.randrange(1, 5), True, False) for word in draw.sample(range(40), 2)}
+        lines = shuffled(draw, words)
+        text = text_of(words, lines)
+        if lockup("judge", "-", text=text).status:
+            continue
+        for word in words:
+            ran = lockup("judge", "--witness", str(word), "-", text=text)
+            mine = [entry(of, it) for of, it in lines if of == word]
+            told = [line.split() for line in ran.out.splitlines() if line.startswith("entry")]
+            same("entries", sorted(mine), sorted(" ".join([*it[:2], "0", "0", *it[4:]]) for it in told))
+            for it in told:
+                same("place", mine[int(it[2])], " ".join([*it[:2], "0", "0", *it[4:]]))
+            same("check", (0, f"legal {len(mine)} entries\n", ""), tuple(lockup("check", "-", text=ran.out)))
+    same("no such word", (0, "lockup-trace no-since\n", ""), tuple(lockup("judge", "--witness", "4", "-", text="lockup-trace 2\n")))
+
+
+LINES = {"core": "core {core} asked for both", "source": "line {last} got {value}, which line {first} alone left",
+         "initial": "line {first} got {value}, which the word began with, and line {last} changed it",
+         "overwritten": "line {first} got {value}, which line {source} left and line {last} overwrote",
+         "not_between": "line {reader} got {value}, which line {last} left, and line {first} was not between"}
+
+
+@seconds(60)
+def test_values_of_json() -> None:
+    """JSON says what the text says, and fits its schema."""
+    draw = random.Random("json")
+    reasons = set()
+    for _ in range(150):
+        history = spoiled(draw, drawn(draw, draw.randrange(2, 10), draw.randrange(1, 5), draw.random() < .7, False))
+        text = text_of({9: history}, [(9, it) for it in history.accesses])
+        plain, ran = lockup("judge", "-", text=text), lockup("judge", "--json", "-", text=text)
+        value = json.loads(ran.out)
+        fits(value, schema("judge"))
+        first, *said = plain.out.splitlines()
+        steps = value.get("contradiction", [])
+        head = f"entries {value['entries']}" if "entries" in value else f"word {value['word']}"
+        same("verdict", first.split()[:1] + sorted(first.split()[1:]), [value["verdict"], *sorted(head.split())])
+        same("status", plain.status, ran.status)
+        reasons |= {it["reason"] for it in steps}
+        told = [f"line {it['line']}: got {it['value']}, which no access left" if it["reason"] == "unwritten" else
+                f"line {it['first']} before line {it['last']}: {LINES[it['reason']].format(**it)}" for it in steps]
+        same("contradiction", said if not told or "line" in steps[0] else said[:-1], told)
+    same("reasons", {*LINES, "unwritten"}, reasons)
+
+
+@each(lambda: [("nothing", ""), ("no_trace", "cores 2\n"), ("a_bad_number", "lockup-trace 1\nentry 0 0 0 load 0 x 0\n"),
+               ("a_late_init", "lockup-trace 1\nentry 0 0 0 load 0 0 0\ninit 1 1\n"), ("a_core", "lockup-trace 1\nentry 16 0 0 load 0 0 0\n")])
+def test_errors(_: str, text: str) -> None:
+    checked = lockup("check", "--explain", "-", text=text)
+    same("judge", (2, "", checked.err), tuple(lockup("judge", "--explain", "-", text=text)))

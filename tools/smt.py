@@ -16,7 +16,7 @@ SOLVERS = {
 NOTHING_LOST = "(define-fun with-nothing-lost () Bool {})"
 KEPT = "(assert (not kept))"
 # What a row has to keep besides the invariant.
-OWED = ["room", "counted-once", "hit-is-newest"]
+OWED = ["room", "counted-once", "hit-is-newest", "hit-may-write"]
 # A counterexample is shown for as few cores as it takes, up to so many.
 MOST_CORES = 4
 

@@ -3,7 +3,9 @@
 - Each cell of the tables that the program prints has its query, or is a comment where it is blocked.
 - All queries are unsat in z3 and in cvc5, without the exclusive state and with it; and that nothing
   is lost, in cvc5.
-- 24 changed cells, each of which breaks the part of the invariant that is written here, in
+- They aren't unsat for want of states: within the invariant there is a state with a writer, one with
+  two readers, and one where each row is taken, but for the rows that are never taken.
+- 25 changed cells, each of which breaks the part of the invariant that is written here, in
   both solvers; and one as the tool shows it.
 - The rows, run for two and three cores by what the text of the queries says alone, reach as many
   states as Rumur finds of the exported model without its blocks, and keep the invariant in each.
@@ -46,6 +48,15 @@ def cells_of(table: str, setting: str) -> dict[str, str]:
             state = row[0].replace(" (exclusive on)", "")
             cells.update({f"{state}, {event}": cell for event, cell in zip(heading[1:], row[1:])})
     return cells
+
+
+@each(lambda: SETTINGS)
+def test_the_text(setting: str) -> None:
+    """It says how many answers there are, and no line is longer than 100."""
+    counts = [printed(it).count("(check-sat)") for it in SETTINGS]
+    said = re.findall(r"([0-9]+) answers without the state E, ([0-9]+) with it", printed(setting))
+    same("answers", [tuple(map(str, counts))], said)
+    same("long lines", [], [line for line in printed(setting).splitlines() if len(line) > 100])
 
 
 # what isn't of the table: the access joins, stalls or is refused
@@ -109,6 +120,49 @@ def test_nothing_is_lost(setting: str) -> None:
     same("status", (0, said), (status, said))
 
 
+# How each solver looks for states, query by query.
+FINDERS = {"z3": ["z3"], "cvc5": ["cvc5", "--incremental", "--finite-model-find"]}
+WITHIN = {
+    "a writer": "(exists ((c Core)) (writer before c))",
+    "two readers": "(exists ((c Core) (d Core)) (and (readable before c) (readable before d) (not (= c d))))",
+}
+# The last queries say of these cells that their rows are never taken.
+NEVER_TAKEN = {"IS_D, Data, k < n", "IS_D, Data, k > n", "directory S, sharers r; GetS of r",
+               "directory S, sharers r, x; GetS of r"}
+
+
+def answers(solver: str, head: str, asked: dict[str, str]) -> dict[str, str]:
+    """Returns a solver's answers to these assertions, by their names."""
+    text = head + "".join(f"(push 1)\n{asserts}(check-sat)\n(pop 1)\n" for asserts in asked.values())
+    with tempfile.TemporaryDirectory() as room:
+        ran = run([*FINDERS[solver], write(Path(room, "states.smt2"), text)])
+    said = (ran.out + ran.err).splitlines()
+    same(f"lines that {solver} prints", len(asked), len(said))
+    return dict(zip(asked, said))
+
+
+@seconds(60)
+@each(lambda: SETTINGS)
+def test_states_within_the_invariant(setting: str) -> None:
+    needs("z3", "cvc5")
+    head, _ = smt.read(printed(setting))
+    asked = {name: f"(assert (invariant before))\n(assert {what})\n" for name, what in WITHIN.items()}
+    for solver in FINDERS:
+        same(f"answers of {solver}", {name: "sat" for name in WITHIN}, answers(solver, head, asked))
+
+
+@seconds(60)
+@each(lambda: SETTINGS)
+def test_each_row_is_taken(setting: str) -> None:
+    needs("z3", "cvc5")
+    head, queries = smt.read(printed(setting))
+    asked = {it.name: it.asserts.replace(smt.KEPT, "") for it in queries if "-row " in it.asserts}
+    wanted = {name: "unsat" if name.split(": ")[0] in NEVER_TAKEN else "sat" for name in asked}
+    same("rows that are never taken", len(NEVER_TAKEN), list(wanted.values()).count("unsat"))
+    for solver in FINDERS:
+        same(f"answers of {solver}", wanted, answers(solver, head, asked))
+
+
 # A cell, a word of its row and what stands in its place, and the part of the invariant that breaks. Each was thought
 # of beforehand: why it breaks stands behind it.
 CHANGED = [
@@ -133,6 +187,8 @@ CHANGED = [
     # the wrong request
     ("I, load", "send-GetS", "send-GetM", "request-fits"),
     ("M, eviction", "send-PutM", "send-PutS", "request-fits"),
+    # a shared copy is written at once
+    ("S, write", "send-GetM SM_AD", "nothing S", "hit-may-write"),
     # a copy leaves unseen
     ("S, eviction", "send-PutS", "nothing", "put-fits"),
     # a reader writes
@@ -273,7 +329,7 @@ def test_an_error_of_a_solver_is_no_answer() -> None:
 def test_answers_that_are_sat() -> None:
     status, out, _ = told({"z3": "sat"}, "--only", "second")
     same("status", 1, status)
-    want("\nsat T  the second\n    breaks one, two, room, counted-once, hit-is-newest\n" in out, out)
+    want("\nsat T  the second\n    breaks one, two, room, counted-once, hit-is-newest, hit-may-write\n" in out, out)
     want("first" not in out, out)
 
 

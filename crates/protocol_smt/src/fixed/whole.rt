@@ -4,6 +4,26 @@
 pub const BEGINNING: &str = "\
 ; ---- The queries
 
+; Before each query stands its cell, as in the tables: the state and the event, and behind the colon
+; what is sent and the next state. So `S, Inv: Inv-Ack; I` is of a cache whose copy is in S and that
+; takes an Inv: it sends an Inv-Ack, and the copy goes to I. In these lines:
+;
+;   directory    the cell is of the directory: its entry and the message that it takes
+;   r            the core whose request is taken, p in the query; with Data home, any core
+;   o            the owner, q in the query
+;   x            all sharers but r; without any, Data(as many as x) are Data(0), and no Inv is sent
+;   n, k         the numbers of acknowledgements that the Data name, and that have come
+;   k + 1        k with the acknowledgement that is taken; behind the colon: it is counted
+;   Data(0)      Data that name no acknowledgement
+;   Data home    the block that is sent home
+;   block home   the message's block becomes the home copy
+;   hit          the access is performed at once
+;   loads alone  only loads have joined the miss; or a write too
+;   -            there is no row; the query is whether the message can come
+;   blocked      the message stays at the front of its channel; there is no query
+;
+; An access or an eviction without a row has no query.
+
 ; the beginning: nobody has the line
 (push 1)
 (assert (and (= was-directory D_I) (not was-home) (= was-home-copy was-newest)))
@@ -41,11 +61,11 @@ pub const BEGINNING: &str = "\
 
 ";
 
-/// Each request finds an entry of which there are rows.
+/// Each request finds an entry of which there are rows, and Data and an Inv-Ack one of their cases.
 pub const COVERAGE: &str = "\
-; ---- No entry is left out: whoever asks, it looks like one of those above
+; ---- No case is left out
 
-; a GetS
+; each GetS finds one of the directory's entries above
 (push 1)
 (assert (invariant before))
 (assert (directory-event take-GetS))
@@ -53,7 +73,7 @@ pub const COVERAGE: &str = "\
 (check-sat)
 (pop 1)
 
-; a GetM
+; each GetM finds one of the directory's entries above
 (push 1)
 (assert (invariant before))
 (assert (directory-event take-GetM))
@@ -61,7 +81,7 @@ pub const COVERAGE: &str = "\
 (check-sat)
 (pop 1)
 
-; a PutS
+; each PutS finds one of the directory's entries above
 (push 1)
 (assert (invariant before))
 (assert (directory-event take-PutS))
@@ -69,7 +89,7 @@ pub const COVERAGE: &str = "\
 (check-sat)
 (pop 1)
 
-; a PutM
+; each PutM finds one of the directory's entries above
 (push 1)
 (assert (invariant before))
 (assert (directory-event take-PutM))
@@ -77,11 +97,29 @@ pub const COVERAGE: &str = "\
 (check-sat)
 (pop 1)
 
-; the block that comes home
+; the block that comes home finds one of them
 (push 1)
 (assert (invariant before))
 (assert (directory-event take-home))
 (assert (forall ((o Core)) (not (some-entry o))))
+(check-sat)
+(pop 1)
+
+; each Data have k = n, k < n or k > n
+(push 1)
+(assert (invariant before))
+(assert (= (was-data p) Data))
+(assert (not (or (is-at-hand take-Data-all) (is-at-hand take-Data-some)
+                 (is-at-hand take-Data-past))))
+(check-sat)
+(pop 1)
+
+; each Inv-Ack has k + 1 = n, k + 1 < n or k + 1 > n
+(push 1)
+(assert (invariant before))
+(assert (was-ack q p))
+(assert (not (or (is-at-hand take-Inv-Ack-all) (is-at-hand take-Inv-Ack-some)
+                 (is-at-hand take-Inv-Ack-past))))
 (check-sat)
 (pop 1)
 
@@ -91,14 +129,17 @@ pub const COVERAGE: &str = "\
 pub const NEVER: &str = "\
 ; ---- Rows that are never taken
 
-; IS_D, Data, k < n: data for a reader name no acknowledgement
+; The tables have these rows, and the queries above say that they keep what they have to. These say
+; more: they are never taken. The proof doesn't need it.
+
+; IS_D, Data, k < n: Data for a reader name no acknowledgement
 (push 1)
 (assert (invariant before))
 (assert (cache-event IS_D take-Data-some))
 (check-sat)
 (pop 1)
 
-; IS_D, Data, k > n: and it has counted none
+; IS_D, Data, k > n: a reader has counted none
 (push 1)
 (assert (invariant before))
 (assert (cache-event IS_D take-Data-past))
@@ -113,7 +154,7 @@ pub const NEVER: &str = "\
 (check-sat)
 (pop 1)
 
-; directory S, sharers r, x; GetS of r
+; directory S, sharers r, x; GetS of r: nor does one among others
 (push 1)
 (assert (invariant before))
 (assert (entry D_S nobody true true))
@@ -122,16 +163,32 @@ pub const NEVER: &str = "\
 (pop 1)
 ";
 
-/// .. and messages that never come without the exclusive state.
+/// .. and what occurs only with the exclusive state.
 pub const EXCLUSIVE_ALONE: &str = "
-; IS_D, Fwd-GetS: a reader never owns the line, without the exclusive state
+; ---- What never occurs without the exclusive state
+
+; state E
+(push 1)
+(assert (invariant before))
+(assert (= (was-state p) E))
+(check-sat)
+(pop 1)
+
+; Data-E
+(push 1)
+(assert (invariant before))
+(assert (= (was-data p) Data-E))
+(check-sat)
+(pop 1)
+
+; IS_D, Fwd-GetS: a reader never owns the line
 (push 1)
 (assert (invariant before))
 (assert (cache-event IS_D take-Fwd-GetS))
 (check-sat)
 (pop 1)
 
-; IS_D, Fwd-GetM
+; IS_D, Fwd-GetM: a reader never owns the line
 (push 1)
 (assert (invariant before))
 (assert (cache-event IS_D take-Fwd-GetM))

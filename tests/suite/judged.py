@@ -5,7 +5,7 @@ import json
 import random
 import re
 
-from harness import each, lockup, same, seconds, want
+from harness import ROOT, each, lockup, read, run, same, seconds, want
 from harness.schema import fits
 from suite.histories import Access, History, drawn, spoiled
 from suite.json_values import schema
@@ -236,6 +236,24 @@ def test_values_of_json() -> None:
                 f"line {it['first']} before line {it['last']}: {LINES[it['reason']].format(**it)}" for it in steps]
         same("contradiction", said if not told or "line" in steps[0] else said[:-1], told)
     same("reasons", {*LINES, "unwritten"}, reasons)
+
+
+def test_the_log_of_another_machine() -> None:
+    """Core 1 reads 11, 12 and 11 again, which were stored once each. With the second 11 as 12 the log is coherent."""
+    folder = ROOT / "examples/judge"
+    log = read(folder / "log.txt")
+    for text, status in (log, 1), (log.replace("131 1 0x80001040 load - 11", "131 1 0x80001040 load - 12"), 0):
+        trace = run(["awk", "-f", folder / "to_trace.awk"], text=text).out
+        ran = lockup("judge", "-", text=trace)
+        same("status", status, ran.status)
+        first, *said = ran.out.splitlines()
+        if status:
+            same("verdict", ("incoherent word 0", read(folder / "log.out")), (first, ran.out))
+            accesses = {2: Access(0, "store", (11,), 0), 3: Access(1, "load", (), 11), 6: Access(2, "store", (12,), 0),
+                        7: Access(1, "load", (), 12), 9: Access(1, "load", (), 11)}
+            want(is_sound(said, 0, accesses), ran.out)
+        else:
+            same("verdict", "coherent 9 entries", first)
 
 
 @each(lambda: [("nothing", ""), ("no_trace", "cores 2\n"), ("a_bad_number", "lockup-trace 1\nentry 0 0 0 load 0 x 0\n"),

@@ -13,7 +13,7 @@ loop-made-init g c =
     let programs = c.args.programs.now in
     let first = of_seed (splitmix_seed 32 c.args.seed) in
     let owed : c.in_ok-owed.owed.items ≡ nothing_owed programs =
-    c.in_ok-owed.ensures ∙ ap (λ n. replicate n 0) c.slices-2.ensures in
+    c.in_ok-owed.ensures ∙ ap (λ n. replicate n 0) c.slices-2.ensures.slices in
     let made : Leads (HasMade config programs first c.seed_from_u64-generator.result 0 (nothing_owed programs))
     c.args.runner.now c.args.runner.now =
     rw c.seed_from_u64-generator.ensures (made_none config programs first c.args.runner.now) in (

@@ -83,7 +83,7 @@ function told(it) {
     if (it.number !== number || waits) return;
     script.mark(it.line);
     moves.show(it);
-    goals.take(it, edits.text.startsWith(EMPTY));
+    goals.take(it, edits.text.startsWith(EMPTY), edits.text === EMPTY);
     tables.take(it.taken, it.isExclusive);
     at('answer').textContent = it.now ? it.answer.trim().slice(0, 300) : it.count ? '' : HINT;
 }

@@ -326,6 +326,12 @@ def test_what_one_may_try() -> None:
         same("core 0 lost its copy in its upgrade", True, "core 0 (SM_AD, Inv for core 1): to IM_AD; sends Inv-Ack to core 1"
              in lockup("script", "--explain", "-", text=it.get("edits.text")).out)
         want(goal().startswith("Try (8 of 8): Both stores are done"), f"the last is {goal()!r}")
+        # who goes back to the race is told of it again, and who empties the machine begins anew
+        it.do("#undo")
+        it.do("#undo")
+        want(goal().startswith("Try (6 of 8): "), f"in the race again it is {goal()!r}")
+        it.open_text(it.get("EMPTY"))
+        want(goal().startswith("Try (1 of 8): "), f"in an empty machine it is {goal()!r}")
         # missed: all is delivered at once
         it.begin()
         loads = "".join(f"issue {core} 0 load 0\npump 9\n" for core in (0, 1))

@@ -68,7 +68,7 @@ impl WordLines {
 
 /// An access that contradicts all orders, or what comes before what.
 #[derive(Clone, Copy)]
-pub(super) enum Said {
+pub(super) enum Claim {
     /// The access in this line got this value, which no access left.
     Unwritten {
         line: usize,
@@ -100,29 +100,29 @@ pub(super) enum Reason {
 }
 
 /// What a contradiction says, of a word with these entries.
-pub(super) fn said(
+pub(super) fn claims_of(
     alloc: Global,
     told: &[Told],
     contradiction: &Contradiction,
-) -> Result<Vec<Said>, AllocError> {
-    let mut said = Vec::new(alloc);
+) -> Result<Vec<Claim>, AllocError> {
+    let mut claims = Vec::new(alloc);
     match contradiction {
         Contradiction::Unwritten(place) => {
             let line = line_of(told, *place);
             let value = reply_of(told, *place);
-            said.push(Said::Unwritten { line, value })?;
+            claims.push(Claim::Unwritten { line, value })?;
         }
-        Contradiction::Circle(circle) => say_circle(told, circle, &mut said)?,
+        Contradiction::Circle(circle) => push_circle(told, circle, &mut claims)?,
     }
-    Ok(said)
+    Ok(claims)
 }
 
-fn say_circle(told: &[Told], circle: &Circle, said: &mut Vec<Said>) -> Result<(), AllocError> {
+fn push_circle(told: &[Told], circle: &Circle, claims: &mut Vec<Claim>) -> Result<(), AllocError> {
     let Link { first, last, why } = circle.start;
-    said.push(linked(told, first, last, why))?;
+    claims.push(linked(told, first, last, why))?;
     let (mut first, mut last) = (first, last);
     for step in &circle.steps {
-        said.push(followed(told, first, last, *step))?;
+        claims.push(followed(told, first, last, *step))?;
         let (next_first, next_last) = after(first, last, *step);
         first = next_first;
         last = next_last;
@@ -139,14 +139,14 @@ const fn after(first: usize, last: usize, step: Step) -> (usize, usize) {
 }
 
 /// That one access comes before another, and why.
-fn linked(told: &[Told], first: usize, last: usize, why: Why) -> Said {
+fn linked(told: &[Told], first: usize, last: usize, why: Why) -> Claim {
     let reason = match why {
         Why::Core => Reason::Core(core_of(told, first)),
         Why::Interval => Reason::Interval,
         Why::Source => Reason::Source(reply_of(told, last)),
         Why::Initial => Reason::Initial(reply_of(told, first)),
     };
-    Said::Before {
+    Claim::Before {
         first: line_of(told, first),
         last: line_of(told, last),
         reason,
@@ -154,10 +154,10 @@ fn linked(told: &[Told], first: usize, last: usize, why: Why) -> Said {
 }
 
 /// What follows, where the first access comes before the last.
-fn followed(told: &[Told], first: usize, last: usize, step: Step) -> Said {
+fn followed(told: &[Told], first: usize, last: usize, step: Step) -> Claim {
     match step {
         Step::Next(access, why) => linked(told, last, access, why),
-        Step::Raise(access) => Said::Before {
+        Step::Raise(access) => Claim::Before {
             first: line_of(told, access),
             last: line_of(told, last),
             reason: Reason::Overwritten {
@@ -165,7 +165,7 @@ fn followed(told: &[Told], first: usize, last: usize, step: Step) -> Said {
                 source: line_of(told, first),
             },
         },
-        Step::Lower(access) => Said::Before {
+        Step::Lower(access) => Claim::Before {
             first: line_of(told, first),
             last: line_of(told, access),
             reason: Reason::NotBetween {
@@ -200,13 +200,13 @@ fn reply_of(told: &[Told], place: usize) -> u64 {
 }
 
 /// As a line of text.
-impl fmt::Display for Said {
+impl fmt::Display for Claim {
     fn fmt<W: fmt::Write>(&self, f: &mut fmt::Formatter<W>) -> fmt::Result {
         match self {
-            Said::Unwritten { line, value } => {
+            Claim::Unwritten { line, value } => {
                 write!(f, "line {line}: got {value}, which no access left")
             }
-            Said::Before {
+            Claim::Before {
                 first,
                 last,
                 reason,
@@ -250,18 +250,18 @@ fn write_reason<W: fmt::Write>(
 
 /// As an object of JSON.
 #[derive(Clone, Copy)]
-pub(super) struct Json(pub Said);
+pub(super) struct Json(pub Claim);
 
 impl fmt::Display for Json {
     fn fmt<W: fmt::Write>(&self, f: &mut fmt::Formatter<W>) -> fmt::Result {
         match self.0 {
-            Said::Unwritten { line, value } => {
+            Claim::Unwritten { line, value } => {
                 write!(
                     f,
                     "{{\"line\":{line},\"reason\":\"unwritten\",\"value\":\"{value}\"}}"
                 )
             }
-            Said::Before {
+            Claim::Before {
                 first,
                 last,
                 reason,

@@ -4,7 +4,7 @@ ghost use Rattle.litmus.specs.Check.{IsNotChecked};
 ghost use Rattle.litmus.specs.Judge.{IsJudgedAs, status_of};
 ghost use Rattle.litmus_script.specs.Play.{IsOfRun};
 
-use super::contradiction::{Json, Said, Told, WordLines, said};
+use super::contradiction::{Claim, Json, Told, WordLines, claims_of};
 use address_map::{Op, WordAddr};
 use history_text::{Verdict, judge_trace};
 use litmus_script::TextWriter;
@@ -62,9 +62,9 @@ fn print<W: Write>(
     ensures fault { IfErr result IsOfRun }
 {
     let told = told_of(alloc, input, verdict, form)?;
-    let said = said_of(alloc, &told.entries, verdict)?;
+    let claims = claims_in(alloc, &told.entries, verdict)?;
     let mut answers = TextWriter { out };
-    match write_verdict(verdict, form, &told, &said, &mut answers) {
+    match write_verdict(verdict, form, &told, &claims, &mut answers) {
         Ok(()) => Ok(()),
         Err(_) => Err(TextFault::CannotWrite),
     }
@@ -85,9 +85,9 @@ fn told_of(
 }
 
 /// What the contradiction says, if there is one.
-fn said_of(alloc: Global, told: &[Told], verdict: &Verdict) -> Result<Vec<Said>, AllocError> {
+fn claims_in(alloc: Global, told: &[Told], verdict: &Verdict) -> Result<Vec<Claim>, AllocError> {
     match verdict {
-        Verdict::Incoherent(_, contradiction) => said(alloc, told, contradiction),
+        Verdict::Incoherent(_, contradiction) => claims_of(alloc, told, contradiction),
         _ => Ok(Vec::new(alloc)),
     }
 }
@@ -96,28 +96,28 @@ fn write_verdict<W: fmt::Write>(
     verdict: &Verdict,
     form: JudgeForm,
     told: &WordLines,
-    said: &[Said],
+    claims: &[Claim],
     out: &mut W,
 ) -> fmt::Result {
     match (verdict, form) {
         (Verdict::Coherent(orders), JudgeForm::Witness(word)) => {
             write_witness(orders, word, told, out)
         }
-        (_, JudgeForm::Json) => write_json(verdict, said, out),
-        _ => write_text(verdict, said, out),
+        (_, JudgeForm::Json) => write_json(verdict, claims, out),
+        _ => write_text(verdict, claims, out),
     }
 }
 
-fn write_text<W: fmt::Write>(verdict: &Verdict, said: &[Said], out: &mut W) -> fmt::Result {
+fn write_text<W: fmt::Write>(verdict: &Verdict, claims: &[Claim], out: &mut W) -> fmt::Result {
     match verdict {
         Verdict::Coherent(orders) => writeln!(out, "coherent {} entries", count(orders)),
         Verdict::Undecided(word) => writeln!(out, "undecided word {}", word.0),
         Verdict::Incoherent(word, _) => {
             writeln!(out, "incoherent word {}", word.0)?;
-            for it in said {
+            for it in claims {
                 writeln!(out, "{it}")?;
             }
-            write_end(said, out)
+            write_end(claims, out)
         }
     }
 }
@@ -132,14 +132,14 @@ fn count(orders: &[Vec<usize>]) -> usize {
 }
 
 /// Writes what the steps lead to: the last one ends where the whole begins.
-fn write_end<W: fmt::Write>(said: &[Said], out: &mut W) -> fmt::Result {
-    match said.last() {
-        Some(Said::Before { last, .. }) => writeln!(out, "so line {last} before itself"),
+fn write_end<W: fmt::Write>(claims: &[Claim], out: &mut W) -> fmt::Result {
+    match claims.last() {
+        Some(Claim::Before { last, .. }) => writeln!(out, "so line {last} before itself"),
         _ => Ok(()),
     }
 }
 
-fn write_json<W: fmt::Write>(verdict: &Verdict, said: &[Said], out: &mut W) -> fmt::Result {
+fn write_json<W: fmt::Write>(verdict: &Verdict, claims: &[Claim], out: &mut W) -> fmt::Result {
     match verdict {
         Verdict::Coherent(orders) => {
             let entries = count(orders);
@@ -151,7 +151,7 @@ fn write_json<W: fmt::Write>(verdict: &Verdict, said: &[Said], out: &mut W) -> f
         Verdict::Incoherent(word, _) => {
             write!(out, "{{\"verdict\":\"incoherent\",\"word\":{},", word.0)?;
             write!(out, "\"contradiction\":[")?;
-            for (number, it) in said.iter().enumerate() {
+            for (number, it) in claims.iter().enumerate() {
                 let comma = if number == 0 { "" } else { "," };
                 write!(out, "{comma}{}", Json(*it))?;
             }

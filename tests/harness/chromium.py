@@ -1,17 +1,16 @@
 """Drives chromium without a window, by the pipe of its protocol for developers: opens a file, presses keys and the mouse, and
-evaluates expressions in the page."""
+evaluates expressions in the page, which see the names of its code."""
 import base64
 import json
 import os
 import select
 import shutil
 import subprocess
-import tempfile
 import time
 from typing import Any
 
 from .compare import Different
-from .processes import needs
+from .window import Window
 
 FLAGS = "--headless --no-sandbox --disable-gpu --disable-dev-shm-usage --no-first-run --remote-debugging-pipe".split()
 LONGEST = 60.0
@@ -21,20 +20,18 @@ KEYS = {"Enter": 13, "Escape": 27, "PageUp": 33, "PageDown": 34, "End": 35, "Hom
 WRITES = {"Enter": "\r"}
 
 
-class Chromium:
-    """A browser with one page, to be used in a `with`."""
+class Chromium(Window):
+    """Chromium with one page, to be used in a `with`."""
 
-    def __init__(self, width: int = 1400, height: int = 900) -> None:
-        needs("chromium")
-        self.size = f"--window-size={width},{height}"
-        self.width, self.height, self.count, self.session, self.rest = width, height, 0, None, b""
+    PROGRAM = "chromium"
+
+    def launch(self) -> None:
+        self.count, self.session, self.rest = 0, None, b""
         self.events: list[dict[str, Any]] = []
-
-    def __enter__(self) -> "Chromium":
-        self.room = tempfile.TemporaryDirectory(ignore_cleanup_errors=True)
         asked, self.write = os.pipe()
         self.read, told = os.pipe()
-        words = [shutil.which("chromium"), *FLAGS, self.size, f"--user-data-dir={self.room.name}", "about:blank"]
+        words = [shutil.which(self.PROGRAM), *FLAGS, f"--window-size={self.width},{self.height}",
+                 f"--user-data-dir={self.room.name}", "about:blank"]
         # the protocol is read at 3 and written at 4
         shell = ["bash", "-c", f'exec "$@" 3<&{asked} 4>&{told}', "bash", *words]
         self.process = subprocess.Popen(shell, pass_fds=(asked, told), stdin=subprocess.DEVNULL, stdout=subprocess.DEVNULL,
@@ -46,14 +43,11 @@ class Chromium:
         for it in ("Page", "Runtime", "Log"):
             self.call(f"{it}.enable")
         self.call("Emulation.setDeviceMetricsOverride", width=self.width, height=self.height, deviceScaleFactor=1, mobile=False)
-        return self
 
-    def __exit__(self, *_) -> None:
-        self.process.kill()
-        self.process.wait()
+    def close(self) -> None:
         os.close(self.write)
         os.close(self.read)
-        self.room.cleanup()
+        super().close()
 
     def call(self, method: str, **parameters: Any) -> dict[str, Any]:
         """Calls a method of the protocol, and returns its result."""
@@ -87,7 +81,6 @@ class Chromium:
         self.call("Page.navigate", url=url)
 
     def get(self, expression: str) -> Any:
-        """Evaluates an expression in the page, and waits where it is a promise."""
         told = self.call("Runtime.evaluate", expression=expression, returnByValue=True, awaitPromise=True)
         if "exceptionDetails" in told:
             raise Different(f"{expression}: {told['exceptionDetails'].get('exception', {}).get('description')}")
@@ -99,7 +92,7 @@ class Chromium:
         return self.call("Runtime.getHeapUsage")["usedSize"]
 
     def get_in_frame(self, expression: str) -> Any:
-        """Evaluates an expression in the page's frame, which may be a process of its own."""
+        # it may be a process of its own
         found = [it for it in self.call("Target.getTargets")["targetInfos"] if it["type"] == "iframe"]
         if not found:
             return self.in_context(expression)
@@ -117,61 +110,29 @@ class Chromium:
         told = self.call("Runtime.evaluate", expression=expression, returnByValue=True, contextId=inner[-1])
         return told["result"].get("value")
 
-    def click_in_frame(self, selector: str) -> None:
-        """Clicks the middle of an element of the page's frame."""
-        left, top = self.get("(({ left, top }) => [left, top])(document.querySelector('iframe').getBoundingClientRect())")
-        x, y = self.get_in_frame(f"""(({{ left, top, width, height }}) => [left + width / 2, top + height / 2])(
-            document.querySelector({json.dumps(selector)}).getBoundingClientRect())""")
-        self.press_at(left + x, top + y)
-
-    def wait(self, expression: str, longest: float = 20.0) -> Any:
-        """Waits until an expression is true, and returns it."""
-        until = time.monotonic() + longest
-        while True:
-            value = self.get(expression)
-            if value:
-                return value
-            if time.monotonic() > until:
-                raise Different(f"never: {expression}")
-            time.sleep(0.02)
-
-    def click(self, selector: str) -> None:
-        """Clicks the middle of an element with the mouse."""
-        where = f"document.querySelector({json.dumps(selector)})"
-        if not self.get(f"!!{where}"):
-            raise Different(f"there is no {selector}")
-        x, y, is_there = self.get(f"""(() => {{
-            const it = {where};
-            it.scrollIntoView({{ block: 'nearest' }});
-            const {{ left, top, width, height }} = it.getBoundingClientRect();
-            const [x, y] = [left + width / 2, top + height / 2];
-            const met = document.elementFromPoint(x, y);
-            return [x, y, !!met && (it === met || it.contains(met) || met.contains(it))];
-        }})()""")
-        if not is_there:
-            raise Different(f"{selector} is behind something else at {x}, {y}")
-        self.press_at(x, y)
-
     def press_at(self, x: float, y: float) -> None:
         for kind in ("mousePressed", "mouseReleased"):
             self.call("Input.dispatchMouseEvent", type=kind, x=x, y=y, button="left", clickCount=1)
 
-    def key(self, name: str, modifiers: int = 0) -> None:
-        """Presses a key: modifiers are 2 for Ctrl and 8 for Shift."""
+    def key(self, name: str, held: int = 0) -> None:
         code, written = KEYS.get(name, ord(name.upper()[0])), WRITES.get(name, "")
         for kind in ("keyDown" if written else "rawKeyDown", "keyUp"):
             text = {"text": written} if kind == "keyDown" else {}
-            self.call("Input.dispatchKeyEvent", type=kind, key=name, windowsVirtualKeyCode=code, modifiers=modifiers, **text)
+            self.call("Input.dispatchKeyEvent", type=kind, key=name, windowsVirtualKeyCode=code, modifiers=held, **text)
 
     def type(self, text: str) -> None:
         self.call("Input.insertText", text=text)
+
+    def choose_file(self, selector: str, file: str) -> None:
+        root = self.call("DOM.getDocument")["root"]["nodeId"]
+        node = self.call("DOM.querySelector", nodeId=root, selector=selector)["nodeId"]
+        self.call("DOM.setFileInputFiles", nodeId=node, files=[file])
 
     def picture(self, file: str) -> None:
         with open(file, "wb") as it:
             it.write(base64.b64decode(self.call("Page.captureScreenshot", format="png")["data"]))
 
     def errors(self) -> list[str]:
-        """Returns what the page's console told as an error."""
         found = []
         for it in self.events:
             if it.get("method") == "Runtime.exceptionThrown":

@@ -1,7 +1,8 @@
-"""Plays the page that tools/browser makes, in a real browser, by its mouse and its keys, and compares what comes of it with what
-the program under test says of the same script.
+"""Plays the page that tools/browser makes, in Chromium and the core of it in Firefox too, by the mouse and by keys, and compares
+what comes of it with what the program under test says of the same script.
 
 - it answers within two seconds of being opened, and stays under 50 ms of work a click at 2,000 commands;
+- each example is answered as the program under test answers it, byte by byte;
 - from an empty machine clicks alone lead to two upgrades at once, with the forward that has to wait and why;
 - each thing that can be done: accesses, deliveries in the list and in the picture, evictions, replies, pumps, undo and redo, a
   step back and another way from there, by the mouse and by keys, on the page and in its picture; settings, the menu, walks and
@@ -11,7 +12,7 @@ the program under test says of the same script.
 - long work says how far it has got, is stopped by a button, and the page goes on meanwhile;
 - an invalid line has its error beside it, with the hint that the program gives;
 - nothing of a script is read as HTML, be it in a link, in the text or in the picture; a link that can't be read, or unfolds to
-  too much, is refused; the page's policy lets no network and no code of others in;
+  too much, is refused; the page's policy lets no network and no code of others in, and nobody is asked for anything;
 - its memory doesn't grow over 1,000 clicks;
 - its code has nothing that browsers of 2023 lack;
 - on a telephone, a tablet and a desk nothing is cut or stands behind something else.
@@ -19,6 +20,8 @@ the program under test says of the same script.
 import base64
 import json
 import re
+import select
+import socket
 import tempfile
 import time
 import zlib
@@ -29,13 +32,14 @@ from typing import Iterator
 from harness import ROOT, Different, each, lockup, read, run, same, seconds, want, write
 from harness.browser import folder
 from harness.chromium import Chromium
-from harness.processes import read
+from harness.firefox import Firefox
+from harness.scripts import example, examples, is_trace
+from harness.window import CTRL, SHIFT, Window
 
-CTRL, SHIFT = 2, 8
 STEP = "document.body.dataset.step"
 
 
-class Page(Chromium):
+class Page(Window):
     """The page in a browser."""
 
     def begin(self, link: str = "") -> None:
@@ -64,13 +68,29 @@ class Page(Chromium):
         self.settle()
 
 
+class InChromium(Page, Chromium):
+    """The page in Chromium."""
+
+
+class InFirefox(Page, Firefox):
+    """The page in Firefox."""
+
+
+BROWSERS = {"chromium": InChromium, "firefox": InFirefox}
+# what a browser tells of what the page's policy refuses
+REFUSED = re.compile("Content.Security.Policy|can.t establish a connection")
+in_each_browser = each(lambda: BROWSERS)
+
+
 @contextmanager
-def page(width: int = 1400, height: int = 900, link: str = "") -> Iterator[Page]:
+def page(browser: str = "chromium", width: int = 1400, height: int = 900, link: str = "", is_tempted: bool = False
+         ) -> Iterator[Page]:
+    """Opens the page in a browser. It tells no error, but for what its policy refuses where it is tempted."""
     folder()
-    with Page(width, height) as it:
+    with BROWSERS[browser](width, height) as it:
         it.begin(link)
         yield it
-        same("errors of the page", [], [error for error in it.errors() if "Content Security Policy" not in error])
+        same("errors of the page", [], [error for error in it.errors() if not (is_tempted and REFUSED.search(error))])
 
 
 def linked(text: str) -> str:
@@ -83,12 +103,13 @@ def linked(text: str) -> str:
 # ---- how fast it is
 
 @seconds(10)
-def test_its_first_answer() -> None:
+@in_each_browser
+def test_its_first_answer(browser: str) -> None:
     """The best of some, since other tests run beside it."""
     folder()
     taken = []
     for _ in range(4):
-        with Page() as it:
+        with BROWSERS[browser]() as it:
             it.begin()
             taken.append(it.get("performance.now()"))
         if taken[-1] < 2000:
@@ -134,10 +155,24 @@ def answers_of(script: str) -> list[str]:
     return lockup("script", "-", text=script).out.split("\n")
 
 
+@seconds(10)
+@in_each_browser
+def test_answers_of_the_examples(browser: str) -> None:
+    """The module, as this browser compiles it, answers them as the program under test does, byte by byte."""
+    calls = [(words, name) for name in examples() if not is_trace(example(name))
+             for words in (["script", "--explain", "-"], ["script", "--json", "-"], ["chart", "-"])]
+    with page(browser) as it:
+        for words, name in calls:
+            ran = lockup(*words, text=example(name))
+            told = it.get(f"engine.ask({json.dumps(example(name))}, {json.dumps(words)})")
+            same(f"{words[:-1]} of {name}", tuple(ran), (told["status"], told["out"], told["err"]))
+
+
 @seconds(5)
-def test_two_upgrades_at_once() -> None:
+@in_each_browser
+def test_two_upgrades_at_once(browser: str) -> None:
     """By the mouse alone, from an empty machine."""
-    with page() as it:
+    with page(browser) as it:
         for core in (0, 1):
             it.do(f'[data-issue="{core} load"]')
             it.do("#all")
@@ -163,8 +198,9 @@ def test_two_upgrades_at_once() -> None:
 
 
 @seconds(8)
-def test_each_action() -> None:
-    with page() as it:
+@in_each_browser
+def test_each_action(browser: str) -> None:
+    with page(browser) as it:
         it.get("document.getElementById('word').value = ''")
         it.click("#word")
         it.type("9")
@@ -196,8 +232,9 @@ def test_each_action() -> None:
 
 
 @seconds(8)
-def test_undo_and_another_way() -> None:
-    with page() as it:
+@in_each_browser
+def test_undo_and_another_way(browser: str) -> None:
+    with page(browser) as it:
         it.open_text("# One.\nissue 0 0 load 0\ndeliver req 0 0\ndeliver data 0 0\nhand 0 0\n")
         it.do("#undo")
         it.do("#redo")
@@ -232,9 +269,10 @@ def test_undo_and_another_way() -> None:
 
 
 @seconds(8)
-def test_by_keys() -> None:
+@in_each_browser
+def test_by_keys(browser: str) -> None:
     """What the mouse does the keys do: accesses, deliveries, evictions, replies, pumps, undo and redo, another way."""
-    with page() as it:
+    with page(browser) as it:
         def press(*keys: str) -> list[str]:
             for key in keys:
                 it.key(key, SHIFT if key.isupper() else 0)
@@ -284,9 +322,10 @@ def test_by_keys() -> None:
 
 
 @seconds(5)
-def test_larger_and_smaller() -> None:
+@in_each_browser
+def test_larger_and_smaller(browser: str) -> None:
     """By keys, wherever they are pressed, but in a text, which keeps them."""
-    with page() as it:
+    with page(browser) as it:
         it.do('[data-issue="0 load"]')
 
         def grows(how: str) -> None:
@@ -311,9 +350,10 @@ def test_larger_and_smaller() -> None:
 
 
 @seconds(5)
-def test_what_one_may_try() -> None:
+@in_each_browser
+def test_what_one_may_try(browser: str) -> None:
     """From an empty machine to an upgrade race, a goal at a time; a race that was missed is told."""
-    with page() as it:
+    with page(browser) as it:
         def goal() -> str:
             return it.get("at('goal-count').textContent + ': ' + at('goal-says').textContent")
         for number, selectors in enumerate([
@@ -366,8 +406,9 @@ def test_undo_of_what_a_link_brought() -> None:
 
 
 @seconds(5)
-def test_settings() -> None:
-    with page() as it:
+@in_each_browser
+def test_settings(browser: str) -> None:
+    with page(browser) as it:
         it.do('[data-issue="0 load"]')
         it.click("summary")
         for name, value in [("cores", "3"), ("mshrs", "1"), ("misses", "inverted"), ("exclusive", "on"), ("lines", "64")]:
@@ -387,14 +428,16 @@ def test_settings() -> None:
 
 
 @seconds(5)
-def test_an_invalid_line() -> None:
+@in_each_browser
+def test_an_invalid_line(browser: str) -> None:
     """Its error stands beside it with the hint, and the steps before it are there."""
-    with page() as it:
+    with page(browser) as it:
         it.get("document.getElementById('script').focus()")
         it.key("End", CTRL)
         it.get("document.getElementById('script').setSelectionRange(1e6, 1e6)")
         it.type("state 0\nissue 0 0 lod 0\nstate 0\n")
-        it.wait("!document.getElementById('fault').hidden")
+        # all of it, since keys come one by one
+        it.wait("at('script').value === edits.text && !at('fault').hidden")
         it.settle()
         said = lockup("page", "-", text=it.get("edits.text")).err
         want(said.startswith("lockup: line 3: not a command   'lod'"), f"the program says {said!r}")
@@ -432,9 +475,10 @@ def test_many_cores() -> None:
 
 
 @seconds(8)
-def test_a_script_that_takes_long() -> None:
+@in_each_browser
+def test_a_script_that_takes_long(browser: str) -> None:
     """It is stopped by a button, and the next one is played."""
-    with page() as it:
+    with page(browser) as it:
         it.get("open('issue 0 0 load 0\\npump 9\\nhand 0 0\\n' + 'issue 0 0 load 0\\n'.repeat(149000))")
         it.wait("!at('stop').hidden")
         it.click("#stop")
@@ -451,8 +495,9 @@ def choose(it: Page, value: str) -> None:
 
 
 @seconds(8)
-def test_litmus() -> None:
-    with page() as it:
+@in_each_browser
+def test_litmus(browser: str) -> None:
+    with page(browser) as it:
         choose(it, "litmus/sb")
         it.click("#walk")
         it.wait("!!document.querySelector('#outcomes table')")
@@ -482,9 +527,10 @@ def test_litmus() -> None:
 
 
 @seconds(8)
-def test_litmus_over_threads() -> None:
+@in_each_browser
+def test_litmus_over_threads(browser: str) -> None:
     """Its outcomes stand beside those that were walked, in one table, and a forbidden one is marked."""
-    with page() as it:
+    with page(browser) as it:
         choose(it, "litmus/mp")
         it.click("#threads")
         it.wait("!!document.querySelector('#outcomes table')")
@@ -513,12 +559,13 @@ SHOWN = "(id => [...at(id).querySelectorAll('tr')].map(it => [...it.children].ma
 
 
 @seconds(8)
-def test_rows_of_programs() -> None:
+@in_each_browser
+def test_rows_of_programs(browser: str) -> None:
     """Over two settings and some seeds: the rows are those of the program, the plot has them, and they are saved."""
     program = read(ROOT / "examples/programs/histogram_shared.txt")
     settings = ["--set", "ways=1,2", "--set", "policy=lru,random 7", "--seeds", "1..3"]
     wanted = lockup("run", "-", *settings, "--csv", text=program).out
-    with page() as it:
+    with page(browser) as it:
         choose(it, "programs/histogram_shared")
         for name, value in [("vary-1", "ways"), ("values-1", "1, 2"), ("vary-2", "policy"), ("values-2", "lru,random 7"),
                             ("seeds", "1..3")]:
@@ -557,8 +604,9 @@ def test_rows_of_programs() -> None:
 
 
 @seconds(8)
-def test_programs_exercises_and_tables() -> None:
-    with page() as it:
+@in_each_browser
+def test_programs_exercises_and_tables(browser: str) -> None:
+    with page(browser) as it:
         choose(it, "programs/ping_pong")
         it.click("#run-report")
         it.wait("!!document.querySelector('#report table')")
@@ -594,12 +642,13 @@ def test_programs_exercises_and_tables() -> None:
 
 
 @seconds(5)
-def test_the_row_that_was_taken() -> None:
+@in_each_browser
+def test_the_row_that_was_taken(browser: str) -> None:
     """The whole tables mark the row and the cell of the step that is shown, as explained answers name it."""
     script = read(ROOT / "examples/two_upgrades_at_once.txt")
     marked = """[...document.querySelectorAll('.taken')].map(it => [it.firstChild, it.querySelector('.taken-cell')]
         .map(it => it.textContent))"""
-    with page() as it:
+    with page(browser) as it:
         it.open_text(script)
         it.click('[data-to="tables"]')
         for command, row, cell in [("deliver data 0 0", "SM_AD", "M"), ("deliver fwd 0 1", "SM_AD", "Inv-Ack; IM_AD"),
@@ -616,18 +665,17 @@ def test_the_row_that_was_taken() -> None:
 
 
 @seconds(5)
-def test_files_and_links() -> None:
+@in_each_browser
+def test_files_and_links(browser: str) -> None:
     """A link that is copied opens the same script; a file that is loaded is the script."""
     script = read(ROOT / "examples/two_upgrades_at_once.txt")
-    with page() as it:
+    with page(browser) as it:
         it.open_text(script)
         link = it.get("linkOf(edits.text)")
         want(len(link) < 1000 and re.fullmatch(r"#script=[\w-]+", link), f"the link is {link}")
         with tempfile.TemporaryDirectory() as room:
             file = write(f"{room}/other.txt", "state 3\n")
-            root = it.call("DOM.getDocument")["root"]["nodeId"]
-            node = it.call("DOM.querySelector", nodeId=root, selector="#file")["nodeId"]
-            it.call("DOM.setFileInputFiles", nodeId=node, files=[str(file)])
+            it.choose_file("#file", str(file))
             it.wait("edits.text === 'state 3\\n'")
         it.get(f"location.hash = {json.dumps(link)}")
         it.wait(f"edits.text === {json.dumps(script)}")
@@ -648,7 +696,7 @@ def test_a_page_of_a_script() -> None:
     file = ROOT / "examples/false_sharing.txt"
     made = run([ROOT / "tools/browser", "--to", folder(), "--page", file])
     same("tools/browser", (0, f"{folder()}/false_sharing.html\n", ""), tuple(made))
-    with Page() as it:
+    with InChromium() as it:
         it.open(f"file://{folder()}/false_sharing.html")
         it.wait("document.body && document.body.dataset.step")
         it.settle()
@@ -673,7 +721,7 @@ def test_a_page_of_another_text(name: str) -> None:
     text = read(ROOT / f"examples/{name}.txt")
     made = run([ROOT / "tools/browser", "--to", folder(), "--page", ROOT / f"examples/{name}.txt"])
     same("tools/browser", (0, f"{folder()}/{short}.html\n", ""), tuple(made))
-    with Page() as it:
+    with InChromium() as it:
         for visit in ("first", "again"):
             it.open(f"file://{folder()}/{short}.html")
             it.wait(f"document.body && document.body.dataset.step && document.body.dataset.tab === '{kind}'")
@@ -693,7 +741,7 @@ NEW = re.compile(r"withResolvers|\bgroupBy\b|fromAsync|Promise\.try|RegExp\.esca
 
 
 def test_nothing_new() -> None:
-    """Neither code nor style has what browsers of 2023 lack: Safari and Firefox aren't tried here."""
+    """Neither code nor style has what browsers of 2023 lack: no older Chromium and Firefox, and no Safari, is tried here."""
     for file in sorted((ROOT / "browser").rglob("*")):
         if file.suffix in (".js", ".mjs", ".css", ".html") and "out" not in file.parts:
             same(f"new words in {file.relative_to(ROOT)}", [], [line for line in read(file).splitlines() if NEW.search(line)])
@@ -708,9 +756,10 @@ NAMED = "# A run.\nconstructor 5\n__proto__ 5\ntoString 5\n"
 
 
 @seconds(5)
-def test_a_hostile_link() -> None:
+@in_each_browser
+def test_a_hostile_link(browser: str) -> None:
     for script in (HOSTILE, HOSTILE.split("deliver")[0] + "# ${hit = 1} javascript:hit=1\nstate 0\n<svg onload=hit=1>\n", NAMED):
-        with page(link=linked(script)) as it:
+        with page(browser, link=linked(script), is_tempted=True) as it:
             same("the script is text", script, it.get("document.getElementById('script').value"))
             time.sleep(0.3)
             for where in (it.get, it.get_in_frame):
@@ -731,9 +780,10 @@ def test_links_that_cannot_be_read() -> None:
 
 
 @seconds(5)
-def test_the_policy() -> None:
-    """No network, no code that isn't the page's own, and the frame is a stranger."""
-    with page() as it:
+@in_each_browser
+def test_the_policy(browser: str) -> None:
+    """No code that isn't the page's own, and the frame is a stranger."""
+    with page(browser, is_tempted=True) as it:
         it.get("""(() => { const it = document.createElement('div'); it.innerHTML = '<img src=x onerror="hit = 1">';
             document.body.append(it); const code = document.createElement('script'); code.textContent = 'hit = 2';
             document.body.append(code); })()""")
@@ -742,6 +792,49 @@ def test_the_policy() -> None:
         same("the frame's origin", "null", it.get_in_frame("origin"))
         same("what the frame may see", "refused",
              it.get_in_frame("(() => { try { return parent.document.title; } catch { return 'refused'; } })()"))
+
+
+# each way in which code of a page asks someone else for something; what is refused isn't the page's error
+CALLS = """(() => {
+    const place = 'http://PLACE/';
+    const add = (name, parts) => document.body.append(Object.assign(document.createElement(name), parts));
+    const worker = new Blob([`fetch('${place}').catch(() => {})`], { type: 'text/javascript' });
+    const calls = [() => fetch(place).catch(() => {}), () => navigator.sendBeacon(place), () => new WebSocket('ws://PLACE/'),
+        () => new EventSource(place), () => new Worker(URL.createObjectURL(worker)), () => add('img', { src: place }),
+        () => add('script', { src: place }), () => add('iframe', { src: place }), () => add('video', { src: place }),
+        () => add('link', { rel: 'stylesheet', href: place }), () => add('link', { rel: 'prefetch', href: place })];
+    for (const it of calls) {
+        try { it(); } catch { continue; }
+    }
+})()"""
+
+
+def is_asked(server: socket.socket, within: float) -> bool:
+    """Returns whether anyone asks this server for something: a browser may connect, and then refuse."""
+    until, sockets = time.monotonic() + within, [server]
+    while time.monotonic() < until:
+        for it in select.select(sockets, [], [], 0.1)[0]:
+            if it is server:
+                sockets.append(server.accept()[0])
+            elif it.recv(1):
+                return True
+            else:
+                sockets.remove(it)
+    return False
+
+
+@seconds(8)
+@in_each_browser
+def test_no_network(browser: str) -> None:
+    """Whatever code in the page or in its frame asks for, nobody hears it, who hears a page without the policy."""
+    with socket.create_server(("127.0.0.1", 0)) as server, page(browser, is_tempted=True) as it:
+        calls = CALLS.replace("PLACE", f"127.0.0.1:{server.getsockname()[1]}")
+        for where, get in (("page", it.get), ("frame", it.get_in_frame)):
+            get(calls)
+            want(not is_asked(server, 1), f"code in the {where} asks someone")
+        it.open(f"file://{write(f'{it.room.name}/open.html', '<body>a page without a policy')}")
+        it.get(calls)
+        want(is_asked(server, 20), "what a page without a policy asks for isn't seen")
 
 
 @seconds(5)
@@ -755,7 +848,7 @@ def test_a_site() -> None:
             want(Path(room, link.split("#")[0]).is_file(), f"there is no {link}")
         scripts = [it for it in links if "#" in it]
         want(len(scripts) > 30, f"there are {len(scripts)} scripts")
-        with Page() as it:
+        with InChromium() as it:
             it.open(f"file://{room}/{scripts[0]}")
             it.wait("document.body && document.body.dataset.step && edits.lines.length > 3")
             it.settle()
@@ -766,10 +859,10 @@ def test_a_site() -> None:
 # ---- how it looks
 
 @seconds(5)
-@each(lambda: ["390x844", "1024x768", "1400x900"])
-def test_nothing_is_cut(size: str) -> None:
+@each(lambda: [(f"{size} {browser}", size, browser) for browser in BROWSERS for size in ("390x844", "1024x768", "1400x900")])
+def test_nothing_is_cut(_: str, size: str, browser: str) -> None:
     width, height = map(int, size.split("x"))
-    with page(width, height) as it:
+    with page(browser, width, height) as it:
         for command in ('[data-issue="0 load"]', "#next", '[data-issue="1 store"]'):
             it.do(command)
         for tab in ("litmus", "programs", "exercises", "play"):

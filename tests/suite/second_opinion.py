@@ -101,7 +101,7 @@ def judged(text: str, *words: str) -> tuple[int, str]:
     return ran.status, ran.out + ran.err
 
 
-@seconds(120)
+@seconds(300)
 @each(lambda: SETTINGS)
 def test_all_are_unsat(setting: str) -> None:
     needs("z3", "cvc5")
@@ -112,7 +112,7 @@ def test_all_are_unsat(setting: str) -> None:
     want(f"{count} of {count} queries are unsat in z3 " in said and " and in cvc5 " in said, said[-500:])
 
 
-@seconds(400)
+@seconds(900)
 @each(lambda: SETTINGS)
 def test_nothing_is_lost(setting: str) -> None:
     needs("cvc5")

@@ -14,11 +14,12 @@
 //!   [`page_walk`] as that script's page.
 //! - [`run_programs`] runs programs on a random schedule, and reports what each core and each line met.
 //!   [`write_schedule`] prints that schedule as a script, and [`page_schedule`] as that script's page; [`Limits`] bound
-//!   it. [`run_sweep`] runs them once for each row of a [`Sweep`], side by side, and prints the rows. [`write_workload`] prints the
-//!   programs of a workload.
+//!   it. [`run_sweep`] runs them once for each row of a [`Sweep`], side by side, and prints the rows.
+//!   [`write_workload`] prints the programs of a workload.
 //! - [`check_trace`] judges a trace, and answers its [`Verdict`]; [`run_check`] writes what that comes to,
 //!   [`run_check_explained`] with what was expected of an entry at fault, and [`run_check_json`] both as JSON.
-//!   [`run_judge`] judges it whatever the order in which several cores' entries stand.
+//!   [`run_judge`] judges it whatever the order in which several cores' entries stand, and prints that in a
+//!   [`JudgeForm`].
 //! - [`run_table`] prints a table of the protocol with its legend, [`run_table_cells`] its cells as values of JSON, and
 //!   [`run_export`] the protocol of one line as a model, and [`run_queries`] as queries.
 //!

@@ -2,8 +2,8 @@
 
 /// What stands below the subcommands.
 pub const TOP: &str = "\
-Where a file can't be read, or a line in it is wrong, add --explain to script, litmus, walk, run, test
-or check: the error then says why, or what could stand there.";
+Where a file can't be read, or a line in it is wrong, add --explain to script, litmus, walk, run, test,
+check or judge: the error then says why, or what could stand there.";
 
 /// What stands below the options of `script`.
 pub const SCRIPT: &str = "\

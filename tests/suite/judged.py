@@ -145,6 +145,7 @@ def test_drawn_traces() -> None:
             behind = text.count("\n") - len(lines) + 1
             accesses = {number: it for number, (of, it) in enumerate(lines, behind) if of == word}
             want(word in wrong and ran.status == 1 and is_sound(said, words[word].initial, accesses), what)
+            want(word == min(wrong) or not all(words[it].has_known_sources() for it in wrong), what)
         else:
             want(ran.status == 1 and any(not words[word].has_known_sources() for word in words), what)
     want(min(counts["coherent"], counts["incoherent"]) > 100, f"too few of one kind: {counts}")
@@ -155,6 +156,8 @@ def test_a_limit() -> None:
     text = "lockup-trace no-since\n" + "".join(f"entry {core} 0 0 store 9 {value} 0\n" for core in range(6) for value in (1, 2))
     text += "".join(f"entry {core} 0 0 load 9 2\n" for core in range(6))
     same("few steps", (1, "undecided word 9\n", ""), tuple(lockup("judge", "--limit", "3", "-", text=text)))
+    twice = text + text.replace(" 9 ", " 8 ").partition("\n")[2]
+    same("the last of two words", (1, "undecided word 9\n", ""), tuple(lockup("judge", "--limit", "3", "-", text=twice)))
     same("many", (0, "coherent 18 entries\n", ""), tuple(lockup("judge", "-", text=text)))
 
 

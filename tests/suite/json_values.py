@@ -31,7 +31,7 @@ def names(folder: Path) -> list[str]:
 
 
 def scripts() -> list[str]:
-    return [name for name in names(EXAMPLES) if name not in ("illegal_trace", "incoherent_trace")]
+    return [name for name in names(EXAMPLES) if name not in ("illegal_trace", "incoherent_history")]
 
 
 # what a command names, by the words of its line

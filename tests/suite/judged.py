@@ -1,6 +1,7 @@
-"""What `judge` says of traces whose entries of several cores stand in any order: of several words, drawn and spoiled, a
-word is incoherent exactly where a search through all orders finds none; each step of a contradiction is tried against
-the trace; logs of runs with their cores' lines mixed are coherent; and a text is refused as `check` refuses it."""
+"""What `judge` says of histories, and of traces whose entries of several cores stand in any order: of several words,
+drawn and spoiled, a word is incoherent exactly where a search through all orders finds none; each step of a
+contradiction is tried against the text; logs of runs with their cores' lines mixed are coherent; and a trace is refused
+as `check` refuses it, a history at the first line that can't be read."""
 import json
 import random
 import re
@@ -27,6 +28,18 @@ BY_HAND = [
     ("another_word_is_coherent", "lockup-trace no-since\nentry 0 0 0 store 8 1 0\nentry 0 1 0 store 9 7 0\nentry 0 2 0 load 9 0\n", 1,
      "incoherent word 9\nline 4 before line 3: line 4 got 0, which the word began with, and line 3 changed it\n"
      "line 3 before line 4: core 0 asked for both\nso line 4 before itself\n"),
+    ("a_history", "lockup-history 1\n# of two cores\ninit 9 3\ncore 1 load 9 7\ncore 0 add 9 4 3\ncore 0 cas 9 7 8 7\ncore 1 load 9 8\n"
+     "core 0 store 1 5\n", 0, "coherent 5 entries\n"),
+    # without times the load may have come first, and with times that touch too
+    ("a_stale_load", "lockup-history 1\ncore 0 store 9 5\ncore 1 load 9 0\n", 0, "coherent 2 entries\n"),
+    ("a_stale_load_in_time", "lockup-history 1\ncore 0 store 9 5 @1..4\ncore 1 load 9 0 @4..9\n", 0, "coherent 2 entries\n"),
+    ("a_stale_load_too_late", "lockup-history 1\ncore 0 store 9 5 @1..4\ncore 1 load 9 0 @5..9\n", 1,
+     "incoherent word 9\nline 3 before line 2: line 3 got 0, which the word began with, and line 2 changed it\n"
+     "line 2 before line 3: the one had ended when the other began\nso line 3 before itself\n"),
+    ("times_of_one_core", "lockup-history 1\ncore 1 load 9 5 @18446744073709551615..18446744073709551615\ncore 0 store 9 5 @0..0\n", 0,
+     "coherent 2 entries\n"),
+    ("words_of_a_history", "lockup-history 1\ncore 63 store 524287 1\ncore 63 load 524287 2\n", 1,
+     "incoherent word 524287\nline 3: got 2, which no access left\n"),
     # what SEQ says means nothing: the lines are the core's order
     ("a_seq_that_goes_back", "lockup-trace no-since\nentry 0 9 0 store 9 1 0\nentry 0 3 0 load 9 1\n", 0, "coherent 2 entries\n"),
 ]
@@ -49,6 +62,11 @@ def text_of(words: dict[int, History], lines: list[tuple[int, Access]]) -> str:
     return "\n".join(["lockup-trace no-since", *init, *(entry(word, access) for word, access in lines), ""])
 
 
+def history_of(words: dict[int, History], lines: list[tuple[int, Access]]) -> str:
+    init = [f"init {word} {history.initial}" for word, history in words.items() if history.initial]
+    return "\n".join(["lockup-history 1", *init, *(access.line(word) for word, access in lines), ""])
+
+
 def shuffled(draw: random.Random, words: dict[int, History]) -> list[tuple[int, Access]]:
     """Returns the accesses of all words, each word's in its order."""
     turns = [word for word, history in words.items() for _ in history.accesses]
@@ -59,6 +77,7 @@ def shuffled(draw: random.Random, words: dict[int, History]) -> list[tuple[int, 
 
 STEP = re.compile(r"line (\d+) before line (\d+): (?:"
                   r"(?P<core>core (\d+) asked for both)|"
+                  r"(?P<interval>the one had ended when the other began)|"
                   r"(?P<source>line (\d+) got (\d+), which line (\d+) alone left)|"
                   r"(?P<initial>line (\d+) got (\d+), which the word began with, and line (\d+) changed it)|"
                   r"(?P<raised>line (\d+) got (\d+), which line (\d+) left and line (\d+) overwrote)|"
@@ -92,6 +111,8 @@ class Contradiction:
         numbers = [int(it) for it in re.findall(r"\d+", said.split(": ", 1)[1])]
         if match["core"]:
             sound = a.core == b.core == numbers[0] and one < other
+        elif match["interval"]:
+            sound = a.end < b.begin
         elif match["source"]:
             sound = numbers == [other, self.got(other), one] and self.writers(numbers[1]) == [one] and numbers[1] != self.initial
         elif match["initial"]:
@@ -122,16 +143,17 @@ def is_sound(said: list[str], initial: int, accesses: dict[int, Access]) -> bool
 
 
 @seconds(60)
-def test_drawn_traces() -> None:
-    draw = random.Random("judged")
+@each(lambda: [("traces", False), ("histories", True)])
+def test_drawn(name: str, is_history: bool) -> None:
+    draw = random.Random(name)
     counts = {"coherent": 0, "incoherent": 0, "undecided": 0}
     for _ in range(400):
         words = {}
         for word in draw.sample(range(40), draw.randrange(1, 4)):
-            history = drawn(draw, draw.randrange(1, 8), draw.randrange(1, 5), draw.random() < .7, False)
+            history = drawn(draw, draw.randrange(1, 8), draw.randrange(1, 5), draw.random() < .7, is_history and draw.random() < .7)
             words[word] = spoiled(draw, history) if draw.random() < .4 else history
         lines = shuffled(draw, words)
-        text = text_of(words, lines)
+        text = (history_of if is_history else text_of)(words, lines)
         ran = lockup("judge", "-", text=text)
         first, *said = ran.out.splitlines()
         verdict = first.split()[0]
@@ -212,7 +234,7 @@ def test_witnesses() -> None:
     same("no such word", (0, "lockup-trace no-since\n", ""), tuple(lockup("judge", "--witness", "4", "-", text="lockup-trace 2\n")))
 
 
-LINES = {"core": "core {core} asked for both", "source": "line {last} got {value}, which line {first} alone left",
+LINES = {"core": "core {core} asked for both", "interval": "the one had ended when the other began", "source": "line {last} got {value}, which line {first} alone left",
          "initial": "line {first} got {value}, which the word began with, and line {last} changed it",
          "overwritten": "line {first} got {value}, which line {source} left and line {last} overwrote",
          "not_between": "line {reader} got {value}, which line {last} left, and line {first} was not between"}
@@ -224,8 +246,8 @@ def test_values_of_json() -> None:
     draw = random.Random("json")
     reasons = set()
     for _ in range(150):
-        history = spoiled(draw, drawn(draw, draw.randrange(2, 10), draw.randrange(1, 5), draw.random() < .7, False))
-        text = text_of({9: history}, [(9, it) for it in history.accesses])
+        history = spoiled(draw, drawn(draw, draw.randrange(2, 10), draw.randrange(1, 5), draw.random() < .7, draw.random() < .5))
+        text = history.text()
         plain, ran = lockup("judge", "-", text=text), lockup("judge", "--json", "-", text=text)
         value = json.loads(ran.out)
         fits(value, schema("judge"))
@@ -246,8 +268,8 @@ def test_the_log_of_another_machine() -> None:
     folder = ROOT / "examples/judge"
     log = read(folder / "log.txt")
     for text, status in (log, 1), (log.replace("131 1 0x80001040 load - 11", "131 1 0x80001040 load - 12"), 0):
-        trace = run(["awk", "-f", folder / "to_trace.awk"], text=text).out
-        ran = lockup("judge", "-", text=trace)
+        history = run(["awk", "-f", folder / "to_history.awk"], text=text).out
+        ran = lockup("judge", "-", text=history)
         same("status", status, ran.status)
         first, *said = ran.out.splitlines()
         if status:
@@ -259,8 +281,45 @@ def test_the_log_of_another_machine() -> None:
             same("verdict", "coherent 9 entries", first)
 
 
-@each(lambda: [("nothing", ""), ("no_trace", "cores 2\n"), ("a_bad_number", "lockup-trace 1\nentry 0 0 0 load 0 x 0\n"),
-               ("a_late_init", "lockup-trace 1\nentry 0 0 0 load 0 0 0\ninit 1 1\n"), ("a_core", "lockup-trace 1\nentry 16 0 0 load 0 0 0\n")])
-def test_errors(_: str, text: str) -> None:
+HEAD = "lockup-history 1, lockup-trace 1, lockup-trace 2 or lockup-trace no-since, the first line"
+
+
+@each(lambda: [("a_bad_number", "lockup-trace 1\nentry 0 0 0 load 0 x 0\n"), ("a_core", "lockup-trace 1\nentry 16 0 0 load 0 0 0\n"),
+               ("a_late_init", "lockup-trace 1\nentry 0 0 0 load 0 0 0\ninit 1 1\n"), ("nothing", ""), ("a_script", "cores 2\nevict 0 0\n")])
+def test_errors_of_traces(_: str, text: str) -> None:
     checked = lockup("check", "--explain", "-", text=text)
     same("judge", (2, "", checked.err), tuple(lockup("judge", "--explain", "-", text=text)))
+
+
+@each(lambda: [
+    ("no_head", "store 0 1\n", 1, "not a trace", f"'store': {HEAD}"),
+    ("a_version", "lockup-history 2\n", 1, "not a trace", "'2': 1"),
+    ("no_version", "lockup-history\n", 1, "not a trace", "end of the line: 1"),
+    ("a_version_of_a_trace", "lockup-trace 3\n", 1, "not a trace", "'3': 1, 2 or no-since"),
+    ("a_name", "lockup-history 1\nentry 0 load 1 1\n", 2, "not a command", "'entry': init or core"),
+    ("no_access", "lockup-history 1\ncore 1\n", 2, "not a command", "end of the line: load, store, add or cas"),
+    ("another_access", "lockup-history 1\ncore 1 swap 1 2\n", 2, "not a command", "'swap': load, store, add or cas"),
+    ("no_reply", "lockup-history 1\ncore 1 load 7\n", 2, "not a command", "end of the line: a number"),
+    ("a_reply_to_a_store", "lockup-history 1\ncore 1 store 7 1 0\n", 2, "not a command", "'0': the end of the line"),
+    ("a_number", "lockup-history 1\n\ncore 1 cas 7 1 2 y\n", 3, "bad number", "'y': a number"),
+    ("a_core", "lockup-history 1\ncore 64 load 0 0\n", 2, "out of range", "'64': a core, 0 to 63"),
+    ("a_word", "lockup-history 1\ncore 0 add 524288 1 0\n", 2, "out of range", "'524288': a word, 0 to 524287"),
+    ("a_word_to_begin_with", "lockup-history 1\ninit 524288 1\n", 2, "out of range", "'524288': a word, 0 to 524287"),
+    ("times", "lockup-history 1\ncore 0 load 1 0 @5\n", 2, "bad number", "'@5': @BEGIN..END, the first not above the last"),
+    ("times_with_a_word", "lockup-history 1\ncore 0 load 1 0 @5..x\n", 2, "bad number",
+     "'@5..x': @BEGIN..END, the first not above the last"),
+    ("times_that_go_back", "lockup-history 1\ncore 0 load 1 0 @5..4\n", 2, "out of range",
+     "'@5..4': @BEGIN..END, the first not above the last"),
+    ("times_before", "lockup-history 1\ncore 0 @1..2 load 1 0\n", 2, "not a command", "'@1..2': load, store, add or cas"),
+    ("a_value_twice", "lockup-history 1\ninit 3 1\ninit 2 1\ncore 0 load 3 1\ninit 3 1\n", 5, "name used twice",
+     "'3': another word than that in line 2"),
+    ("after_a_value_twice", "lockup-history 1\ninit 3 1\ninit 3 1\nx\n", 3, "name used twice", "'3': another word than that in line 2"),
+])
+def test_errors(_: str, text: str, line: int, fault: str, hint: str) -> None:
+    same("judge", (2, "", f"lockup: line {line}: {fault}\n"), tuple(lockup("judge", "-", text=text)))
+    same("with a hint", (2, "", f"lockup: line {line}: {fault}   {hint}\n"), tuple(lockup("judge", "--explain", "-", text=text)))
+
+
+def test_check_reads_no_history() -> None:
+    same("check", (2, "", "lockup: line 1: not a trace   the text is a history: 'lockup judge' reads it\n"),
+         tuple(lockup("check", "--explain", "-", text="lockup-history 1\n")))

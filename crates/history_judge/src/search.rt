@@ -17,6 +17,7 @@ mod graph;
 mod lists;
 mod ranks;
 mod rows;
+mod shorten;
 mod sources;
 mod turns;
 mod walk;
@@ -38,7 +39,10 @@ pub fn proposed(
                 return Ok(Judgement::Coherent(order));
             }
         }
-        Judgement::Incoherent(reason) => return Ok(Judgement::Incoherent(reason)),
+        Judgement::Incoherent(reason) => {
+            let shorter = shorten::shortened(alloc, initial, history, reason)?;
+            return Ok(Judgement::Incoherent(shorter));
+        }
         Judgement::Undecided => {}
     }
     explore::explored(alloc, initial, history, limit)

@@ -1,2 +1,4 @@
+pub mod HistoryLines
 pub mod Reading
 pub mod Rows
+pub mod Traces

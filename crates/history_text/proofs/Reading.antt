@@ -1,143 +1,174 @@
--- The lines of a text that is known to be a trace.
-use Rattle.std.proofs.Common.{◌≡◌, ℕ, List, [], ◌∷◌, ◌++◌, get_or, eqb, eq-eqb, false, true, refl, sym, ap, ◌∙◌, subst}
+-- The lines of a history, one after another.
+use Rattle.std.proofs.Common.{◌≡◌, ℕ, List, [], ◌∷◌, ◌++◌, Option, Some, None, true, false, refl, sym, ap, ◌∙◌, subst, inl, inr}
+use Rattle.std.specs.Prelude.{is_some}
+use Rattle.address_map.specs.declared.address.WordAddr.{WordAddr}
 use Rattle.std.proofs.Common.{append_assoc, append-nil}
-use Rattle.std.specs.Prelude.{codes}
 use Rattle.std.specs.Str.Lines.{lines}
+use Rattle.litmus_text.specs.Fault.{IsAtLine}
 use Rattle.litmus_text.specs.Form.{Writes}
 use Rattle.litmus_text.specs.Statement.{statements_from}
-use Rattle.trace_check.specs.declared.trace_line.Version.{Version}
-use Rattle.trace_check.specs.declared.trace_line.Version.TheVariants as versions
-use Rattle.trace_check.specs.declared.trace_line.TraceLine.{TraceLine}
-use Rattle.trace_check.specs.TraceLine.{IsLineOf, IsNoFirstLine, IsNoLineOf, number_of, parts_of_first}
-use Rattle.trace_check.specs.Trace.{AreLines, body_of}
-use Rattle.history_text.specs.Judged.{IsSomeTrace}
+use Rattle.litmus_text.specs.declared.fault.TextFault.{TextFault}
+use Rattle.litmus_text.specs.declared.fault.TextFault.TheVariants as text_faults
+use Rattle.trace_check.specs.Trace.{IsFaultAt, IsFaultOfTrace, IsNoMemoryOrLine, IsNoTrace, IsOfLine}
+use Rattle.history_text.specs.Histories.{AreTold, given_at}
+use Rattle.history_text.specs.HistoryLine.{IsLineOf, parts_of_history}
+use Rattle.history_text.specs.Judged.{AreFresh, AreHistoriesOf, AreHistoriesOfTrace, AreWritten, BeginsAsHistory}
+use Rattle.history_text.specs.Judged.{IsFaultIn, IsFaultOf, IsFresh, IsGivenAgain, IsNoMemoryOrAt, IsNoNext, ReadsNext, ReadsTo}
+use Rattle.history_text.specs.declared.histories.Histories.{Histories}
+use Rattle.history_text.specs.declared.history_line.HistoryLine.{HistoryLine}
+use Rattle.history_text.specs.declared.history_line.HistoryLine.TheVariants as history_lines
 
--- ---- the lines behind the first
-
--- of these statements some were read as these lines, and the others are lines too
-pub record IsReading (version : Version) (all left : List (ℕ × List (List ℕ))) (read : List TraceLine) : Type 0 where
+-- of these statements some were read, and these are the histories of which their lines tell
+pub record IsReading (all left : List (ℕ × List (List ℕ))) (histories : Histories) : Type 0 where
   pub done : List (ℕ × List (List ℕ))
   pub split : done ++ left ≡ all
-  pub written : AreLines version done read
-  pub more : List TraceLine
-  pub others : AreLines version left more
+  pub told : List HistoryLine
+  pub written : AreWritten done told
+  pub once : AreFresh [] told
+  pub are : AreTold histories told
 
-pub reading_none : (version : Version) (all : List (ℕ × List (List ℕ))) (lines : List TraceLine)
-    → AreLines version all lines → IsReading version all all []
-unfolding AreLines
-reading_none version all lines are = record { done = []; split = refl; written = tt; more = lines; others = are }
+pub reading_none : (all : List (ℕ × List (List ℕ))) (histories : Histories) → AreTold histories []
+    → IsReading all all histories
+unfolding AreFresh AreWritten
+reading_none all histories none =
+    record { done = []; split = refl; told = []; written = tt; once = tt; are = none }
 
-lines_push : (version : Version) (ss : List (ℕ × List (List ℕ))) (ls : List TraceLine) (s : ℕ × List (List ℕ))
-    (l : TraceLine) → AreLines version ss ls → IsLineOf version s.1 l → AreLines version (ss ++ s ∷ []) (ls ++ l ∷ [])
-unfolding AreLines
-lines_push version [] [] s l h k = (k, tt)
-lines_push version [] (l' ∷ ls) s l h k = absurd h
-lines_push version (s' ∷ ss) [] s l h k = absurd h
-lines_push version (s' ∷ ss) (l' ∷ ls) s l h k = (h.0, lines_push version ss ls s l h.1 k)
+written_more : (ss : List (ℕ × List (List ℕ))) (ls : List HistoryLine) (s : ℕ × List (List ℕ)) (l : HistoryLine)
+    → AreWritten ss ls → IsLineOf s.1 l → AreWritten (ss ++ s ∷ []) (ls ++ l ∷ [])
+unfolding AreWritten
+written_more [] [] s l h k = (k, tt)
+written_more [] (l' ∷ ls) s l h k = absurd h
+written_more (s' ∷ ss) [] s l h k = absurd h
+written_more (s' ∷ ss) (l' ∷ ls) s l h k = (h.0, written_more ss ls s l h.1 k)
 
--- the lines behind the next one
-record IsBehind (version : Version) (s : ℕ × List (List ℕ)) (left : List (ℕ × List (List ℕ))) : Type 0 where
-  pub line : TraceLine
-  pub next : IsLineOf version s.1 line
-  pub more : List TraceLine
-  pub others : AreLines version left more
+fresh_more : (before ls : List HistoryLine) (l : HistoryLine) → AreFresh before ls → IsFresh (before ++ ls) l
+    → AreFresh before (ls ++ l ∷ [])
+unfolding AreFresh
+fresh_more before [] l h k = (subst (λ b. IsFresh b l) (append-nil before) k, tt)
+fresh_more before (l' ∷ ls) l h k = (
+  h.0,
+  fresh_more (before ++ l' ∷ []) ls l h.1
+      (subst (λ b. IsFresh b l) (sym (append_assoc before (l' ∷ []) ls)) k),
+)
 
-behind : (version : Version) (s : ℕ × List (List ℕ)) (left : List (ℕ × List (List ℕ))) (more : List TraceLine)
-    → AreLines version (s ∷ left) more → IsBehind version s left
-unfolding AreLines
-behind version s left [] are = absurd are
-behind version s left (line ∷ more) are = record { line = line; next = are.0; more = more; others = are.1 }
+-- whether a word was given a value is whether its lines give it one
+pub given_again : (histories : Histories) (told : List HistoryLine) (word : WordAddr) (value : ℕ) (given : Option ℕ)
+    → given ≡ given_at histories word.0 → is_some given ≡ true → AreTold histories told
+    → IsGivenAgain told (history_lines.Init word value)
+unfolding IsGivenAgain
+given_again histories told word value None is said are = cc
+given_again histories told word value (Some v) is said are =
+    λ none. let some : Some v ≡ None = is ∙ are.given word.0 ∙ none in cc
 
-pub reading_more : (version : Version) (all left : List (ℕ × List (List ℕ))) (s : ℕ × List (List ℕ))
-    (read : List TraceLine) (line : TraceLine) → IsLineOf version s.1 line → IsReading version all (s ∷ left) read
-    → IsReading version all left (read ++ line ∷ [])
-reading_more version all left s read line is reading =
-    let rest = behind version s left reading.more reading.others in
+pub given_first : (histories : Histories) (told : List HistoryLine) (word : WordAddr) (value : ℕ) (given : Option ℕ)
+    → given ≡ given_at histories word.0 → is_some given ≡ false → AreTold histories told
+    → IsFresh told (history_lines.Init word value)
+unfolding IsFresh
+given_first histories told word value None is said are = sym (are.given word.0) ∙ sym is
+given_first histories told word value (Some v) is said are = cc
+
+pub reading_more : (all left : List (ℕ × List (List ℕ))) (s : ℕ × List (List ℕ)) (old now : Histories)
+    → ((told : List HistoryLine) → AreTold old told → ReadsNext told s.1 now) → IsReading all (s ∷ left) old
+    → IsReading all left now
+reading_more all left s old now reads reading =
+    let next = reads reading.told reading.are in
     record {
       done = reading.done ++ s ∷ [];
       split = append_assoc reading.done (s ∷ []) left ∙ reading.split;
-      written = lines_push version reading.done read s line reading.written is;
-      more = rest.more;
-      others = rest.others;
+      told = reading.told ++ next.line ∷ [];
+      written = written_more reading.done reading.told s next.line reading.written next.written;
+      once = fresh_more [] reading.told next.line reading.once next.fresh;
+      are = next.are;
     }
 
-pub never_refused : (version : Version) (all left : List (ℕ × List (List ℕ))) (s : ℕ × List (List ℕ))
-    (read : List TraceLine) → IsNoLineOf version s.1 → IsReading version all (s ∷ left) read → ⊥
-never_refused version all left s read refused reading =
-    let rest = behind version s left reading.more reading.others in refused rest.line rest.next
-
-pub reading_all : (version : Version) (all left : List (ℕ × List (List ℕ))) (read : List TraceLine) → left ≡ []
-    → IsReading version all left read → AreLines version all read
-reading_all version all left read none reading =
+pub reading_all : (all left : List (ℕ × List (List ℕ))) (histories : Histories) → left ≡ []
+    → IsReading all left histories → ReadsTo all histories
+reading_all all left histories none reading =
     let whole : reading.done ≡ all =
     sym (append-nil reading.done) ∙ sym (ap (λ ss. reading.done ++ ss) none) ∙ reading.split in
-    subst (λ ss. AreLines version ss read) whole reading.written
-
--- ---- the first line
-
-two_names : (word a b : List ℕ) → word ≡ a → word ≡ b → eqb (get_or a 0 0) (get_or b 0 0) ≡ false → ⊥
-two_names word a b h k other =
-    let same : eqb (get_or a 0 0) (get_or b 0 0) ≡ true =
-    eq-eqb (get_or a 0 0) (get_or b 0 0) (ap (λ t. get_or t 0 0) (sym h ∙ k)) in cc
-
-one_number : (word : List ℕ) (a b : Version) → word ≡ number_of a → word ≡ number_of b → a ≡ b
-one_number word versions.One versions.One h k = refl
-one_number word versions.One versions.Two h k = absurd (two_names word (codes "1") (codes "2") h k refl)
-one_number word versions.One versions.WithoutSince h k = absurd (two_names word (codes "1") (codes "no-since") h k refl)
-one_number word versions.Two versions.One h k = absurd (two_names word (codes "2") (codes "1") h k refl)
-one_number word versions.Two versions.Two h k = refl
-one_number word versions.Two versions.WithoutSince h k = absurd (two_names word (codes "2") (codes "no-since") h k refl)
-one_number word versions.WithoutSince versions.One h k = absurd (two_names word (codes "no-since") (codes "1") h k refl)
-one_number word versions.WithoutSince versions.Two h k = absurd (two_names word (codes "no-since") (codes "2") h k refl)
-one_number word versions.WithoutSince versions.WithoutSince h k = refl
-
-one_version : (words : List (List ℕ)) (a b : Version) → Writes words (parts_of_first a)
-    → Writes words (parts_of_first b) → a ≡ b
-one_version [] a b h k = absurd h
-one_version (w ∷ []) a b h k = absurd h.1
-one_version (w ∷ v ∷ ws) a b h k = one_number v a b h.1.0 k.1.0
-
--- a text that is a trace says something
-pub says_something : (text : List ℕ) → IsSomeTrace text → statements_from 0 (lines text) ≡ [] → ⊥
-says_something text some none =
-    let trace = some.1.1.1 in
-    let both : [] ≡ (trace.number, trace.first) ∷ trace.rest = sym none ∙ trace.statements in cc
-
--- the first of its statements is its first line, and the others are lines
-record GoesOn (first : List (List ℕ)) (rest : List (ℕ × List (List ℕ))) : Type 0 where
-  pub version : Version
-  pub begins : Writes first (parts_of_first version)
-  pub more : List TraceLine
-  pub written : AreLines version rest more
-
-goes_on : (text : List ℕ) (number : ℕ) (first : List (List ℕ)) (rest : List (ℕ × List (List ℕ))) → IsSomeTrace text
-    → statements_from 0 (lines text) ≡ (number, first) ∷ rest → GoesOn first rest
-goes_on text number first rest some is =
-    let trace = some.1.1.1 in
-    let more : List TraceLine = body_of some.1.0 some.1.1.0 in
-    let same : (number, first) ∷ rest ≡ (trace.number, trace.first) ∷ trace.rest = sym is ∙ trace.statements in
-    let here : ℕ × List (List ℕ) = (number, first) in
-    let there : ℕ × List (List ℕ) = (trace.number, trace.first) in
-    let pair : here ≡ there = cc in
-    let same_first : trace.first ≡ first = sym (ap (λ (p : ℕ × List (List ℕ)). p.1) pair) in
-    let same_rest : trace.rest ≡ rest = cc in
     record {
-      version = some.0;
-      begins = subst (λ ws. Writes ws (parts_of_first some.0)) same_first trace.begins;
-      more = more;
-      written = subst (λ ss. AreLines some.0 ss more) same_rest trace.goes_on.written;
+      told = reading.told;
+      written = subst (λ ss. AreWritten ss reading.told) whole reading.written;
+      once = reading.once;
+      are = reading.are;
     }
 
-pub never_without_version : (text : List ℕ) (number : ℕ) (first : List (List ℕ)) (rest : List (ℕ × List (List ℕ)))
-    → IsSomeTrace text → statements_from 0 (lines text) ≡ (number, first) ∷ rest → IsNoFirstLine first → ⊥
-never_without_version text number first rest some is refused =
-    let goes = goes_on text number first rest some is in refused goes.version goes.begins
+-- the statement that is left first is at fault, where its words write no line that may stand there
+pub first_fault : (all left : List (ℕ × List (List ℕ))) (s : ℕ × List (List ℕ)) (histories : Histories)
+    (fault : TextFault) → IsReading all (s ∷ left) histories
+    → IsNoMemoryOrAt (λ number. (number ≡ s.0)
+    × ((told : List HistoryLine) → AreTold histories told → IsNoNext told s.1)) fault
+    → IsNoMemoryOrAt (IsFaultIn all) fault
+unfolding IsNoMemoryOrAt
+first_fault all left s histories text_faults.NoMemory reading is = tt
+first_fault all left s histories (text_faults.Line number fault) reading is =
+    record {
+      before = reading.done;
+      words = s.1;
+      behind = left;
+      stands = sym reading.split ∙ ap (λ (n : ℕ). reading.done ++ (n, s.1) ∷ left) (sym is.0);
+      told = reading.told;
+      written = reading.written;
+      once = reading.once;
+      is = is.1 reading.told reading.are;
+    }
+first_fault all left s histories (text_faults.Config error) reading is = absurd is
+first_fault all left s histories text_faults.CannotWrite reading is = absurd is
 
-pub some_lines : (text : List ℕ) (number : ℕ) (first : List (List ℕ)) (rest : List (ℕ × List (List ℕ)))
-    (version : Version) → IsSomeTrace text → statements_from 0 (lines text) ≡ (number, first) ∷ rest
-    → Writes first (parts_of_first version) → (more : List TraceLine) × AreLines version rest more
-some_lines text number first rest version some is begins =
-    let goes = goes_on text number first rest some is in (
-      goes.more,
-      subst (λ v. AreLines v rest goes.more) (one_version first goes.version version goes.begins begins) goes.written,
-    )
+-- ---- texts
+
+pub of_history : (text : List ℕ) (first : ℕ × List (List ℕ)) (rest : List (ℕ × List (List ℕ)))
+    (histories : Histories) → statements_from 0 (lines text) ≡ first ∷ rest → Writes first.1 parts_of_history
+    → ReadsTo rest histories → AreHistoriesOf text histories
+of_history text first rest histories are begins reads = record {
+  told = reads.told;
+  tells = inr (record {
+    first = first;
+    rest = rest;
+    statements = are;
+    begins = begins;
+    written = reads.written;
+    once = reads.once;
+  });
+  are = reads.are;
+}
+
+pub of_trace : (text : List ℕ) (histories : Histories) → AreHistoriesOfTrace text histories
+    → AreHistoriesOf text histories
+of_trace text histories is = record { told = is.told; tells = inl is.tells; are = is.are }
+
+pub fault_of_history : (text : List ℕ) (first : ℕ × List (List ℕ)) (rest : List (ℕ × List (List ℕ)))
+    (fault : TextFault) → statements_from 0 (lines text) ≡ first ∷ rest → Writes first.1 parts_of_history
+    → IsNoMemoryOrAt (IsFaultIn rest) fault → IsFaultOf text fault
+unfolding IsFaultOf IsNoMemoryOrAt
+fault_of_history text first rest text_faults.NoMemory are begins is = tt
+fault_of_history text first rest (text_faults.Line number fault) are begins is =
+    inl (record { first = first; rest = rest; are = are; begins = begins; is = is })
+fault_of_history text first rest (text_faults.Config error) are begins is = is
+fault_of_history text first rest text_faults.CannotWrite are begins is = is
+
+pub fault_of_other : (text : List ℕ) (fault : TextFault)
+    → (BeginsAsHistory (statements_from 0 (lines text)) → ⊥) → IsNoMemoryOrLine (IsNoTrace text) fault
+    → IsAtLine (IsFaultAt (statements_from 0 (lines text))) fault
+    → IsOfLine (IsFaultOfTrace (statements_from 0 (lines text))) fault → IsFaultOf text fault
+unfolding IsFaultOf
+fault_of_other text text_faults.NoMemory other refused line is = tt
+fault_of_other text (text_faults.Line number fault) other refused line is =
+    inr (record { other = other; refused = refused; line = line; is = is })
+fault_of_other text (text_faults.Config error) other refused line is = refused
+fault_of_other text text_faults.CannotWrite other refused line is = refused
+
+-- a text of no statements, or whose first are other words, begins as no history
+pub no_statements : (statements : List (ℕ × List (List ℕ))) → statements ≡ [] → BeginsAsHistory statements → ⊥
+unfolding BeginsAsHistory
+no_statements [] none begins = begins
+no_statements (s ∷ ss) none begins = cc
+
+pub other_first : (statements : List (ℕ × List (List ℕ))) (first : ℕ × List (List ℕ))
+    (rest : List (ℕ × List (List ℕ))) → statements ≡ first ∷ rest → (Writes first.1 parts_of_history → ⊥)
+    → BeginsAsHistory statements → ⊥
+unfolding BeginsAsHistory
+other_first [] first rest are other begins = begins
+other_first (s ∷ ss) first rest are other begins =
+    let same : s ≡ first = cc in
+    other (subst (λ (p : ℕ × List (List ℕ)). Writes p.1 parts_of_history) same begins)

@@ -1,2 +1,3 @@
+pub mod HistoryLine
 pub mod Histories
 pub mod Judged

@@ -1,147 +1,111 @@
-ghost use Rattle.std.specs.Prelude.{◌≡◌, ℕ, ◌==◌, ◌++◌, ◌∷◌, [], ◌<◌, IfOk, OnOk, if◌then◌else◌, length};
-ghost use Rattle.address_map.specs.Words.{initial_value};
-ghost use Rattle.slice_log.specs.Log.{initially};
-ghost use Rattle.history_judge.specs.Judged.{IsJudged};
-ghost use Rattle.history_text.specs.Histories.{access_of, accesses_of, entries_in, initial_in, row_of};
-ghost use Rattle.history_text.specs.Judged.{IsVerdictOn};
+//! The histories of words, an access at a time.
+ghost use Rattle.std.specs.Prelude.{◌≡◌, ℕ, ◌==◌, ◌++◌, ◌∷◌, [], ◌<◌, List, None, OnOk, Some, if◌then◌else◌, length, unwrap_or};
+ghost use Rattle.history_text.specs.Histories.{AreTold, accesses_at, given_at, given_in};
+ghost use Rattle.history_text.specs.declared.history_line.HistoryLine.{HistoryLine};
 
+use super::history_line::HistoryLine;
 use address_map::WordAddr;
-use history_judge::{Access, Contradiction, Judgement, judge};
-use slice_log::Entry;
+use history_judge::Access;
 use std::alloc::{AllocError, Global};
-use trace_check::TraceLine;
 
-/// What the histories of all words come to.
+/// What is told of a word.
 #[derive(Debug, Drop)]
-pub enum Verdict {
-    /// Each word's accesses may have been performed in this order, which names them by their places among the word's.
-    /// Words past the last have no accesses.
-    Coherent(Vec<Vec<usize>>),
-    /// This word's accesses have no order, for this reason, which names them by their places among the word's.
-    Incoherent(WordAddr, Contradiction),
-    /// Neither was found for this word, and no word was found incoherent.
-    Undecided(WordAddr),
+pub struct History {
+    /// The value that it begins with, if one was given: else it is 0.
+    pub given: Option<u64>,
+    /// Its accesses, each core's in its order.
+    pub accesses: Vec<Access>,
+    /// The number by which each of them is told: that of its line, where a text tells of them.
+    pub numbers: Vec<usize>,
 }
 
-/// The histories of the words of a trace.
+/// The histories of words.
 #[derive(Debug, Drop)]
 pub struct Histories {
-    /// The value that each of these words begins with.
-    init: Vec<(WordAddr, u64)>,
-    /// The accesses of each word, up to the last that has some.
-    rows: Vec<Vec<Access>>,
-    alloc: Global,
+    /// By word, up to the last of which something is told.
+    pub(super) rows: Vec<History>,
+    pub(super) alloc: Global,
 }
 
 impl Histories {
-    fn new(alloc: Global) -> Self
-        ensures init { result.init.items ≡ [] }
-        ensures rows { (w : ℕ) → row_of result w ≡ [] }
+    /// Of no word anything is told.
+    pub fn new(alloc: Global) -> Self
+        ensures { AreTold result [] }
     {
         Histories {
-            init: Vec::new(alloc),
             rows: Vec::new(alloc),
             alloc,
         }
     }
 
-    pub fn of(alloc: Global, lines: &[TraceLine]) -> Result<Self, AllocError>
-        ensures init { IfOk result (λ it. it.init.items ≡ initial_in lines.now) }
-        ensures rows { IfOk result (λ it. (w : ℕ) → row_of it w ≡ accesses_of w (entries_in lines.now)) }
-    {
-        let mut histories = Histories::new(alloc);
-        for line in lines {
-            histories.take(line)?;
-        }
-        Ok(histories)
+    /// What is told of a word, if anything.
+    pub fn history(&self, word: WordAddr) -> Option<&History> {
+        self.rows.get(word.0 as usize)
     }
 
-    // Takes one line more.
-    fn take(&mut self, line: &TraceLine) -> Result<(), AllocError>
-        ensures init { OnOk result (self.new.init.items ≡ self.old.init.items ++ initial_in (line.now ∷ [])) }
-        ensures rows { OnOk result ((w : ℕ) → row_of self.new w
-            ≡ row_of self.old w ++ accesses_of w (entries_in (line.now ∷ []))) }
+    /// The value that a word was given to begin with.
+    pub fn given(&self, word: WordAddr) -> Option<u64>
+        ensures { result ≡ given_at self.now word.0 }
     {
-        match line {
-            TraceLine::Init(word, value) => self.begin(*word, *value),
-            TraceLine::Entry(entry) => self.perform(entry),
+        match self.rows.get(word.0 as usize) {
+            Some(history) => history.given,
+            None => None,
         }
     }
 
-    fn begin(&mut self, word: WordAddr, value: u64) -> Result<(), AllocError>
-        ensures init { OnOk result (self.new.init.items ≡ self.old.init.items ++ (word, value) ∷ []) }
-        ensures rows { (w : ℕ) → row_of self.new w ≡ row_of self.old w }
+    /// Gives a word the value that it begins with, unless it was given one.
+    pub fn begin(&mut self, word: WordAddr, value: u64) -> Result<(), AllocError>
+        ensures given { OnOk result ((w : ℕ) → given_at self.new w ≡ (if word.0 == w
+            then Some (unwrap_or (given_at self.old w) value) else given_at self.old w)) }
+        ensures accesses { OnOk result ((w : ℕ) → accesses_at self.new w ≡ accesses_at self.old w) }
     {
-        self.init.push((word, value))?;
+        let row = word.0 as usize;
+        self.make_room(row)?;
+        if self.rows[row].given.is_none() {
+            self.rows[row].given = Some(value);
+        }
         Ok(())
     }
 
-    fn perform(&mut self, entry: &Entry) -> Result<(), AllocError>
-        ensures init { self.new.init ≡ self.old.init }
-        ensures rows { OnOk result ((w : ℕ) → row_of self.new w ≡ (if entry.now.word.0 == w
-            then row_of self.old w ++ access_of entry.now ∷ [] else row_of self.old w)) }
+    /// Takes the next access of a word, which is told by this number.
+    pub fn take(&mut self, word: WordAddr, access: Access, number: usize) -> Result<(), AllocError>
+        ensures given { OnOk result ((w : ℕ) → given_at self.new w ≡ given_at self.old w) }
+        ensures accesses { OnOk result ((w : ℕ) → accesses_at self.new w ≡ (if word.0 == w
+            then accesses_at self.old w ++ access ∷ [] else accesses_at self.old w)) }
     {
-        let row = entry.word.0 as usize;
+        let row = word.0 as usize;
         self.make_room(row)?;
-        self.rows[row].push(Access::untimed(entry.core, entry.op, entry.reply))?;
+        self.rows[row].accesses.push(access)?;
+        self.rows[row].numbers.push(number)?;
+        Ok(())
+    }
+
+    /// Takes what one more line tells.
+    #[tactic(auto, using(crate::proofs::Rows::told_access, crate::proofs::Rows::told_init))]
+    pub(super) fn tell(&mut self, line: HistoryLine, number: usize) -> Result<(), AllocError>
+        ensures { OnOk result ((told : List HistoryLine) → AreTold self.old told → AreTold self.new (told ++ line ∷ [])) }
+    {
+        match line {
+            HistoryLine::Init(word, value) => self.begin(word, value)?,
+            HistoryLine::Access(word, access) => self.take(word, access, number)?,
+        }
         Ok(())
     }
 
     // The row is there from now on.
     fn make_room(&mut self, row: usize) -> Result<(), AllocError>
-        ensures init { self.new.init ≡ self.old.init }
         ensures there { OnOk result (row < length self.new.rows.items) }
-        ensures rows { (w : ℕ) → row_of self.new w ≡ row_of self.old w }
+        ensures given { (w : ℕ) → given_at self.new w ≡ given_at self.old w }
+        ensures accesses { (w : ℕ) → accesses_at self.new w ≡ accesses_at self.old w }
     {
         'room: while self.rows.len() <= row {
-            self.rows.push(Vec::new(self.alloc))?;
+            let history = History {
+                given: None,
+                accesses: Vec::new(self.alloc),
+                numbers: Vec::new(self.alloc),
+            };
+            self.rows.push(history)?;
         }
         Ok(())
-    }
-
-    /// Judges the history of each word, with at most so many steps for each to try orders.
-    pub fn judge(&self, limit: usize) -> Result<Verdict, AllocError>
-        ensures { IfOk result (IsVerdictOn (initially self.now.init.items) (row_of self.now)) }
-    {
-        let mut orders = Vec::new(self.alloc);
-        let mut undecided = None;
-        for number in 0..self.rows.len() {
-            let word = WordAddr(number as u64);
-            match self.judged(word, number, limit)? {
-                Judgement::Coherent(order) => orders.push(order)?,
-                Judgement::Incoherent(reason) => return Ok(Verdict::Incoherent(word, reason)),
-                Judgement::Undecided => undecided = Some(word),
-            }
-        }
-        Ok(match undecided {
-            Some(word) => Verdict::Undecided(word),
-            None => Verdict::Coherent(orders),
-        })
-    }
-
-    // Judges the history of the word in this row.
-    fn judged(&self, word: WordAddr, row: usize, limit: usize) -> Result<Judgement, AllocError>
-        requires there { row < length self.now.rows.items }
-        requires word { word.0 ≡ row }
-        ensures { IfOk result (IsJudged word (initially self.now.init.items word.0) (row_of self.now word.0)) }
-    {
-        let initial = self.initial(word);
-        judge(self.alloc, word, initial, &self.rows[row], limit)
-    }
-
-    fn initial(&self, word: WordAddr) -> u64
-        ensures { result ≡ initial_value self.now.init.items word }
-    {
-        initial_of(&self.init, word)
-    }
-}
-
-// The value that the word begins with.
-fn initial_of(init: &[(WordAddr, u64)], word: WordAddr) -> u64
-    ensures { result ≡ initial_value init.now word }
-{
-    match init.iter().find(|pair| pair.0.0 == word.0) {
-        Some(pair) => pair.1,
-        None => 0,
     }
 }

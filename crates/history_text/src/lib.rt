@@ -1,17 +1,25 @@
-//! Judges the histories of a trace's words: whether each word's accesses have an order that keeps each core's own and
-//! explains each reply. The trace's order is then one of many.
+//! Reads the histories of words, and judges each: whether the word's accesses have an order that keeps each core's own
+//! and explains each reply.
 //!
-//! - [`judge_trace`] judges a text, by `history_judge`, word by word. At Ok the text is a trace, and the verdict is that
-//!   on the accesses that its lines name (`IsJudgedTrace` of specs/Judged.antt). A text is refused only where it is no
-//!   trace, with the fault that `trace_check` names.
-//! - [`Verdict::Coherent`] has an order for each word, [`Verdict::Incoherent`] a word that has none, and why.
+//! - [`read_histories`] reads a text. At Ok it is a history or a trace, and the histories are those of which its lines
+//!   tell (`AreHistoriesOf` of specs/Judged.antt). A text is refused only where a line of it can't be read, and the
+//!   fault names the first such line (`IsFaultOf`); a trace's is that which `trace_check` names.
+//! - [`Histories::take`] takes accesses from elsewhere, one by one.
+//! - [`judge_text`] reads and judges (`IsJudgedText`). [`Histories::judge`] judges histories, by `history_judge`, word by word: [`Verdict::Coherent`] has an order for each
+//!   word, [`Verdict::Incoherent`] a word that has none, and why.
 //!
-//! Accesses are kept by word, up to the greatest that is named.
+//! Accesses are kept by word, up to the greatest of which something is told.
 #![tactic(auto)]
 
-pub use histories::Verdict;
-pub use traces::judge_trace;
+pub use histories::{Histories, History};
+pub use history_line::HistoryLine;
+pub use judged::{Judged, judge_text};
+pub use read::read_histories;
+pub use verdict::Verdict;
 
 mod histories;
+mod history_line;
+mod interval;
+mod judged;
 mod read;
-mod traces;
+mod verdict;

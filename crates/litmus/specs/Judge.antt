@@ -1,8 +1,10 @@
--- How a judgement of a trace's histories ends.
-use Rattle.std.specs.Prelude.{◌≡◌, ℕ, List}
-use Rattle.history_text.specs.Judged.{IsJudgedTrace}
-use Rattle.history_text.specs.declared.histories.Verdict.{Verdict}
-use Rattle.history_text.specs.declared.histories.Verdict.TheVariants as verdicts
+-- How a judgement of histories ends.
+use Rattle.std.specs.Prelude.{◌≡◌, ◌⊎◌, ℕ, List}
+use Rattle.litmus_script.specs.Play.{IsOfRun}
+use Rattle.litmus_text.specs.declared.fault.TextFault.{TextFault}
+use Rattle.history_text.specs.Judged.{IsFaultOf, IsJudgedText}
+use Rattle.history_text.specs.declared.verdict.Verdict.{Verdict}
+use Rattle.history_text.specs.declared.verdict.Verdict.TheVariants as verdicts
 
 -- the exit status: 0 where each word's accesses have an order, and 1 where some have none, or nobody knows
 abbrev pub status_of : Verdict → ℕ
@@ -10,8 +12,12 @@ status_of (verdicts.Coherent orders) = 0
 status_of (verdicts.Incoherent word reason) = 1
 status_of (verdicts.Undecided word) = 1
 
--- the text is a trace whose histories come to this status
+-- the text tells of histories that come to this status
 pub record IsJudgedAs (text : List ℕ) (status : ℕ) : Type 0 where
   pub verdict : Verdict
-  pub judged : IsJudgedTrace text verdict
+  pub judged : IsJudgedText text verdict
   pub is : status ≡ status_of verdict
+
+-- Why a text wasn't judged: there was no memory, its verdict couldn't be written, or a line is at fault.
+abbrev pub IsNotJudged : List ℕ → TextFault → Type 0
+IsNotJudged text fault = IsOfRun fault ⊎ IsFaultOf text fault

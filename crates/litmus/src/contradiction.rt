@@ -1,70 +1,9 @@
-//! Why a word's accesses have no order, in the lines of the trace that tells of them.
+//! Why a word's accesses have no order, in the lines of the text that tells of them.
 
-use address_map::WordAddr;
 use history_judge::{Circle, Contradiction, Link, Step, Why};
-use litmus_text::Statements;
-use slice_log::Entry;
+use history_text::History;
 use std::alloc::{AllocError, Global};
 use std::fmt;
-use trace_check::{TraceLine, Version};
-
-/// An entry of a trace, with the number of its line.
-#[derive(Clone, Copy)]
-pub(super) struct Told {
-    pub line: usize,
-    pub entry: Entry,
-}
-
-/// What a trace tells of a word.
-#[derive(Drop)]
-pub(super) struct WordLines {
-    /// The value that the word begins with, if a line says so.
-    pub initial: Option<u64>,
-    /// Its entries, in the order of their lines.
-    pub entries: Vec<Told>,
-}
-
-impl WordLines {
-    pub(super) fn none(alloc: Global) -> Self {
-        WordLines {
-            initial: None,
-            entries: Vec::new(alloc),
-        }
-    }
-
-    /// Of a text that is known to be a trace.
-    pub(super) fn of(alloc: Global, trace: &[u8], word: WordAddr) -> Result<Self, AllocError> {
-        let mut lines = WordLines::none(alloc);
-        let mut statements = Statements::of(trace);
-        let Some(first) = statements.next() else {
-            return Ok(lines);
-        };
-        // no line of a trace is refused
-        if let Ok(version) = Version::parse(first.words.as_slice()) {
-            lines.read(version, statements, word)?;
-        }
-        Ok(lines)
-    }
-
-    fn read(
-        &mut self,
-        version: Version,
-        statements: Statements<'_>,
-        word: WordAddr,
-    ) -> Result<(), AllocError> {
-        for statement in statements {
-            match TraceLine::parse(version, statement.words.as_slice()) {
-                Ok(TraceLine::Init(of, value)) if of == word => self.initial = Some(value),
-                Ok(TraceLine::Entry(entry)) if entry.word == word => self.entries.push(Told {
-                    line: statement.number,
-                    entry,
-                })?,
-                _ => {}
-            }
-        }
-        Ok(())
-    }
-}
 
 /// An access that contradicts all orders, or what comes before what.
 #[derive(Clone, Copy)]
@@ -99,30 +38,34 @@ pub(super) enum Reason {
     NotBetween { value: u64, reader: usize },
 }
 
-/// What a contradiction says, of a word with these entries.
+/// What a contradiction says, of a word with this history.
 pub(super) fn claims_of(
     alloc: Global,
-    told: &[Told],
+    history: &History,
     contradiction: &Contradiction,
 ) -> Result<Vec<Claim>, AllocError> {
     let mut claims = Vec::new(alloc);
     match contradiction {
         Contradiction::Unwritten(place) => {
-            let line = line_of(told, *place);
-            let value = reply_of(told, *place);
+            let line = line_of(history, *place);
+            let value = reply_of(history, *place);
             claims.push(Claim::Unwritten { line, value })?;
         }
-        Contradiction::Circle(circle) => push_circle(told, circle, &mut claims)?,
+        Contradiction::Circle(circle) => push_circle(history, circle, &mut claims)?,
     }
     Ok(claims)
 }
 
-fn push_circle(told: &[Told], circle: &Circle, claims: &mut Vec<Claim>) -> Result<(), AllocError> {
+fn push_circle(
+    history: &History,
+    circle: &Circle,
+    claims: &mut Vec<Claim>,
+) -> Result<(), AllocError> {
     let Link { first, last, why } = circle.start;
-    claims.push(linked(told, first, last, why))?;
+    claims.push(linked(history, first, last, why))?;
     let (mut first, mut last) = (first, last);
     for step in &circle.steps {
-        claims.push(followed(told, first, last, *step))?;
+        claims.push(followed(history, first, last, *step))?;
         let (next_first, next_last) = after(first, last, *step);
         first = next_first;
         last = next_last;
@@ -139,62 +82,62 @@ const fn after(first: usize, last: usize, step: Step) -> (usize, usize) {
 }
 
 /// That one access comes before another, and why.
-fn linked(told: &[Told], first: usize, last: usize, why: Why) -> Claim {
+fn linked(history: &History, first: usize, last: usize, why: Why) -> Claim {
     let reason = match why {
-        Why::Core => Reason::Core(core_of(told, first)),
+        Why::Core => Reason::Core(core_of(history, first)),
         Why::Interval => Reason::Interval,
-        Why::Source => Reason::Source(reply_of(told, last)),
-        Why::Initial => Reason::Initial(reply_of(told, first)),
+        Why::Source => Reason::Source(reply_of(history, last)),
+        Why::Initial => Reason::Initial(reply_of(history, first)),
     };
     Claim::Before {
-        first: line_of(told, first),
-        last: line_of(told, last),
+        first: line_of(history, first),
+        last: line_of(history, last),
         reason,
     }
 }
 
 /// What follows, where the first access comes before the last.
-fn followed(told: &[Told], first: usize, last: usize, step: Step) -> Claim {
+fn followed(history: &History, first: usize, last: usize, step: Step) -> Claim {
     match step {
-        Step::Next(access, why) => linked(told, last, access, why),
+        Step::Next(access, why) => linked(history, last, access, why),
         Step::Raise(access) => Claim::Before {
-            first: line_of(told, access),
-            last: line_of(told, last),
+            first: line_of(history, access),
+            last: line_of(history, last),
             reason: Reason::Overwritten {
-                value: reply_of(told, access),
-                source: line_of(told, first),
+                value: reply_of(history, access),
+                source: line_of(history, first),
             },
         },
         Step::Lower(access) => Claim::Before {
-            first: line_of(told, first),
-            last: line_of(told, access),
+            first: line_of(history, first),
+            last: line_of(history, access),
             reason: Reason::NotBetween {
-                value: reply_of(told, last),
-                reader: line_of(told, last),
+                value: reply_of(history, last),
+                reader: line_of(history, last),
             },
         },
     }
 }
 
-// A contradiction names accesses of the word alone, so there is an entry at each place.
+// A contradiction names accesses of the word alone, so there is one at each place.
 
-fn line_of(told: &[Told], place: usize) -> usize {
-    match told.get(place) {
-        Some(it) => it.line,
+fn line_of(history: &History, place: usize) -> usize {
+    match history.numbers.get(place) {
+        Some(line) => *line,
         None => 0,
     }
 }
 
-fn core_of(told: &[Told], place: usize) -> u8 {
-    match told.get(place) {
-        Some(it) => it.entry.core.0,
+fn core_of(history: &History, place: usize) -> u8 {
+    match history.accesses.get(place) {
+        Some(access) => access.core.0,
         None => 0,
     }
 }
 
-fn reply_of(told: &[Told], place: usize) -> u64 {
-    match told.get(place) {
-        Some(it) => it.entry.reply,
+fn reply_of(history: &History, place: usize) -> u64 {
+    match history.accesses.get(place) {
+        Some(access) => access.reply,
         None => 0,
     }
 }

@@ -11,6 +11,7 @@ use std::alloc::Global;
 use std::fmt::Display;
 
 mod config;
+mod history_line;
 mod kind;
 mod misfit;
 mod place;
@@ -27,6 +28,8 @@ pub enum TextKind {
     LitmusTest,
     Programs,
     Trace,
+    /// What each core was answered, without an order between cores: a history, or a trace.
+    History,
 }
 
 /// Says what a reader of this error may want to know, of a text that was read as one of this kind. There is no hint
@@ -68,7 +71,7 @@ fn hint_of_line(
     match read_as {
         TextKind::Script => told(alloc, expected(alloc, input, fault.at(number))?),
         TextKind::Exercise => hint_of_exercise(alloc, input, fault.at(number)),
-        TextKind::LitmusTest | TextKind::Programs | TextKind::Trace => {
+        TextKind::LitmusTest | TextKind::Programs | TextKind::Trace | TextKind::History => {
             hint_of_words(alloc, read_as, input, number, fault)
         }
     }
@@ -117,6 +120,7 @@ fn hint_of_statement(
         TextKind::LitmusTest => test_line::misfit(line),
         TextKind::Programs => program_line::misfit(line),
         TextKind::Trace => trace_line::misfit(line),
+        TextKind::History => history_line::misfit(line),
         TextKind::Script | TextKind::Exercise => None,
     };
     told(alloc, misfit?)

@@ -1,12 +1,12 @@
-//! Judges a trace whose order of several cores isn't known, and prints what comes of it.
+//! Judges histories, in which the order of accesses of several cores isn't known, and prints what comes of it.
 ghost use Rattle.std.specs.Prelude.{◌≡◌, IfErr, IfOk};
-ghost use Rattle.litmus.specs.Check.{IsNotChecked};
-ghost use Rattle.litmus.specs.Judge.{IsJudgedAs, status_of};
+ghost use Rattle.litmus.specs.Judge.{IsJudgedAs, IsNotJudged, status_of};
 ghost use Rattle.litmus_script.specs.Play.{IsOfRun};
 
-use super::contradiction::{Claim, Json, Told, WordLines, claims_of};
+use super::contradiction::{Claim, Json, claims_of};
 use address_map::{Op, WordAddr};
-use history_text::{Verdict, judge_trace};
+use history_judge::Access;
+use history_text::{History, Judged, Verdict, judge_text};
 use litmus_script::TextWriter;
 use litmus_text::TextFault;
 use std::alloc::{AllocError, Global};
@@ -18,14 +18,14 @@ use std::io::Write;
 pub enum JudgeForm {
     /// As text, with the contradiction of a word that has no order.
     Text,
-    /// .. but where all words have an order, the entries of the word with this number in its order, as a trace.
+    /// .. but where all words have an order, the accesses of the word with this number in its order, as a trace.
     Witness(u64),
     /// As a value of JSON.
     Json,
 }
 
-/// Judges a trace as histories, and prints the verdict in this form. At most `limit` steps are taken to try orders of a
-/// word. Returns the exit status.
+/// Judges the histories of which a text tells, and prints the verdict in this form. At most `limit` steps are taken to
+/// try orders of a word. Returns the exit status.
 pub fn run_judge<W: Write>(
     alloc: Global,
     input: &[u8],
@@ -34,15 +34,14 @@ pub fn run_judge<W: Write>(
     out: &mut W,
 ) -> Result<u8, TextFault>
     ensures judged { IfOk result (IsJudgedAs input.now) }
-    ensures fault { IfErr result (IsNotChecked input.now) }
+    ensures fault { IfErr result (IsNotJudged input.now) }
 {
-    let verdict = judge_trace(alloc, input, limit as usize)?;
-    let status = status_of(&verdict);
-    print(alloc, input, &verdict, form, out)?;
-    Ok(status)
+    let judged = judge_text(alloc, input, limit as usize)?;
+    print(alloc, &judged, form, out)?;
+    Ok(status_of(&judged.verdict))
 }
 
-// The exit status: 0 where the trace is coherent, and 1 where it isn't, or nobody knows.
+// The exit status: 0 where the histories are coherent, and 1 where they aren't, or nobody knows.
 const fn status_of(verdict: &Verdict) -> u8
     ensures { result ≡ status_of verdict.now }
 {
@@ -54,57 +53,46 @@ const fn status_of(verdict: &Verdict) -> u8
 
 fn print<W: Write>(
     alloc: Global,
-    input: &[u8],
-    verdict: &Verdict,
+    judged: &Judged,
     form: JudgeForm,
     out: &mut W,
 ) -> Result<(), TextFault>
     ensures fault { IfErr result IsOfRun }
 {
-    let told = told_of(alloc, input, verdict, form)?;
-    let claims = claims_in(alloc, &told.entries, verdict)?;
+    let claims = claims_in(alloc, judged)?;
     let mut answers = TextWriter { out };
-    match write_verdict(verdict, form, &told, &claims, &mut answers) {
+    match write_verdict(judged, form, &claims, &mut answers) {
         Ok(()) => Ok(()),
         Err(_) => Err(TextFault::CannotWrite),
     }
 }
 
-/// What the trace tells of the word of which more is said than the verdict.
-fn told_of(
-    alloc: Global,
-    input: &[u8],
-    verdict: &Verdict,
-    form: JudgeForm,
-) -> Result<WordLines, AllocError> {
-    match (verdict, form) {
-        (Verdict::Incoherent(word, _), _) => WordLines::of(alloc, input, *word),
-        (_, JudgeForm::Witness(word)) => WordLines::of(alloc, input, WordAddr(word)),
-        _ => Ok(WordLines::none(alloc)),
-    }
-}
-
 /// What the contradiction says, if there is one.
-fn claims_in(alloc: Global, told: &[Told], verdict: &Verdict) -> Result<Vec<Claim>, AllocError> {
-    match verdict {
-        Verdict::Incoherent(_, contradiction) => claims_of(alloc, told, contradiction),
-        _ => Ok(Vec::new(alloc)),
+fn claims_in(alloc: Global, judged: &Judged) -> Result<Vec<Claim>, AllocError> {
+    match &judged.verdict {
+        Verdict::Incoherent(word, contradiction) => match judged.histories.history(*word) {
+            Some(history) => claims_of(alloc, history, contradiction),
+            None => Ok(Vec::new(alloc)),
+        },
+        Verdict::Coherent(_) | Verdict::Undecided(_) => Ok(Vec::new(alloc)),
     }
 }
 
 fn write_verdict<W: fmt::Write>(
-    verdict: &Verdict,
+    judged: &Judged,
     form: JudgeForm,
-    told: &WordLines,
     claims: &[Claim],
     out: &mut W,
 ) -> fmt::Result {
-    match (verdict, form) {
-        (Verdict::Coherent(orders), JudgeForm::Witness(word)) => {
-            write_witness(orders, word, told, out)
-        }
-        (_, JudgeForm::Json) => write_json(verdict, claims, out),
-        _ => write_text(verdict, claims, out),
+    match form {
+        JudgeForm::Text => write_text(&judged.verdict, claims, out),
+        JudgeForm::Json => write_json(&judged.verdict, claims, out),
+        JudgeForm::Witness(word) => match &judged.verdict {
+            Verdict::Coherent(orders) => write_witness(judged, orders, word, out),
+            Verdict::Undecided(_) | Verdict::Incoherent(..) => {
+                write_text(&judged.verdict, claims, out)
+            }
+        },
     }
 }
 
@@ -160,37 +148,48 @@ fn write_json<W: fmt::Write>(verdict: &Verdict, claims: &[Claim], out: &mut W) -
     }
 }
 
-/// Writes the entries of a word in the order that was found, as a trace. An entry's SEQ is its place among the word's.
+/// Writes the accesses of a word in the order that was found, as a trace.
 fn write_witness<W: fmt::Write>(
+    judged: &Judged,
     orders: &[Vec<usize>],
     word: u64,
-    told: &WordLines,
     out: &mut W,
 ) -> fmt::Result {
     writeln!(out, "lockup-trace no-since")?;
-    if let Some(value) = told.initial {
-        writeln!(out, "init {word} {value}")?;
-    }
-    let Some(order) = orders.get(word as usize) else {
+    let Some(history) = judged.histories.history(WordAddr(word)) else {
         return Ok(());
     };
+    if let Some(value) = history.given {
+        writeln!(out, "init {word} {value}")?;
+    }
+    match orders.get(word as usize) {
+        Some(order) => write_entries(word, history, order, out),
+        None => Ok(()),
+    }
+}
+
+// An entry's SEQ is its place among the word's.
+fn write_entries<W: fmt::Write>(
+    word: u64,
+    history: &History,
+    order: &[usize],
+    out: &mut W,
+) -> fmt::Result {
     for place in order {
-        if let Some(it) = told.entries.get(*place) {
-            write_entry(*it, *place, out)?;
+        if let Some(access) = history.accesses.get(*place) {
+            write_entry(word, *access, *place, out)?;
         }
     }
     Ok(())
 }
 
-fn write_entry<W: fmt::Write>(told: Told, seq: usize, out: &mut W) -> fmt::Result {
-    let entry = told.entry;
-    write!(out, "entry {} {seq} {} ", entry.core.0, entry.tag)?;
-    let word = entry.word.0;
-    match entry.op {
+fn write_entry<W: fmt::Write>(word: u64, access: Access, seq: usize, out: &mut W) -> fmt::Result {
+    write!(out, "entry {} {seq} 0 ", access.core.0)?;
+    match access.op {
         Op::Load => write!(out, "load {word}")?,
         Op::Store(value) => write!(out, "store {word} {value}")?,
         Op::Add(delta) => write!(out, "add {word} {delta}")?,
         Op::Cas { expect, new } => write!(out, "cas {word} {expect} {new}")?,
     }
-    writeln!(out, " {}", entry.reply)
+    writeln!(out, " {}", access.reply)
 }

@@ -524,12 +524,15 @@ fn judge<'a>(alloc: Global) -> Result<Command<'a>, AllocError>
     let command = begin(
         alloc,
         "judge",
-        "Judges a trace whose order of several cores isn't known: is there one that explains each reply?",
+        "Judges a history, what each core was answered: is there an order between cores that explains it?",
         help::JUDGE,
     );
     let command = and(
         command,
-        file(alloc, "The trace: one entry a line; - is standard input"),
+        file(
+            alloc,
+            "The history, one access a line, or a trace; - is standard input",
+        ),
     );
     let command = and(
         command,

@@ -282,9 +282,8 @@ const fn explained_kind(line: CommandLine<'_>) -> Option<TextKind> {
             Some(TextKind::LitmusTest)
         }
         CommandLine::Run { explain: true, .. } => Some(TextKind::Programs),
-        CommandLine::Check { explain: true, .. } | CommandLine::Judge { explain: true, .. } => {
-            Some(TextKind::Trace)
-        }
+        CommandLine::Check { explain: true, .. } => Some(TextKind::Trace),
+        CommandLine::Judge { explain: true, .. } => Some(TextKind::History),
         _ => None,
     }
 }

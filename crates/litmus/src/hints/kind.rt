@@ -21,6 +21,7 @@ pub(super) const fn reader_of(kind: TextKind) -> &'static str {
         }
         TextKind::Programs => "the text has programs: 'lockup run' reads it",
         TextKind::Trace => "the text is a trace: 'lockup check' and 'lockup judge' read it",
+        TextKind::History => "the text is a history: 'lockup judge' reads it",
     }
 }
 
@@ -32,6 +33,7 @@ pub(super) fn other_kind(read_as: TextKind, input: &[u8], number: usize) -> Opti
     let kind = kind_up_to(input, number)?;
     match (kind, read_as) {
         (TextKind::Script, TextKind::Script | TextKind::Exercise) => None,
+        (TextKind::Trace, TextKind::History) => None,
         (TextKind::Script, _) if wants_answers(input) => Some(TextKind::Exercise),
         _ if kind == read_as => None,
         _ => Some(kind),
@@ -78,6 +80,7 @@ fn kind_up_to(input: &[u8], number: usize) -> Option<TextKind> {
 fn kind_of(first: &[u8], next: &[u8]) -> Option<TextKind> {
     match first {
         b"lockup-trace" | b"entry" => Some(TextKind::Trace),
+        b"lockup-history" => Some(TextKind::History),
         b"lockup-litmus" | b"thread" | b"rounds" | b"movers" => Some(TextKind::LitmusTest),
         b"outstanding" | b"pace" => Some(TextKind::Programs),
         b"core" if is_of_program(next) => Some(TextKind::Programs),

@@ -1,5 +1,6 @@
 //! What can stand at a place of a line.
 
+use super::history_line::{history_access_places, history_places};
 use super::misfit::Wanted;
 use super::program_line::program_places;
 use super::test_line::{old_test_places, test_places};
@@ -26,6 +27,9 @@ pub(super) enum Place {
     Access,
     OldAccess,
     BareAccess,
+    /// What a line of a history begins with, and what a core asked for in one.
+    HistoryName,
+    HistoryAccess,
     Core,
     Line,
     Word,
@@ -105,6 +109,8 @@ impl Place {
             Place::Access => access_places(word),
             Place::OldAccess => old_access_places(word),
             Place::BareAccess => bare_access_places(word),
+            Place::HistoryName => history_places(word),
+            Place::HistoryAccess => history_access_places(word),
             _ if self.takes(word, fault, sizes) => Some(rest),
             _ => None,
         }
@@ -178,7 +184,8 @@ impl Place {
                 "thread, load, store, add, settle, evict, forbid, rounds, movers, or a field of the configuration; cas where the first line is lockup-litmus 2"
             }
             Place::TraceName | Place::OldTraceName | Place::BareTraceName => "init or entry",
-            Place::Access | Place::BareAccess => "load, store, add or cas",
+            Place::HistoryName => "init or core",
+            Place::Access | Place::BareAccess | Place::HistoryAccess => "load, store, add or cas",
             Place::OldAccess => "load, store or add; cas where the first line is lockup-trace 2",
             Place::Core => "a core",
             Place::Line => "a line",

@@ -82,7 +82,8 @@ pub(super) fn misfit<'a>(line: WrongLine<'a, '_>) -> Option<Misfit<'a>> {
     }
 }
 
-fn has_version(line: WrongLine<'_, '_>) -> bool {
+/// Whether the first line names a version.
+pub(super) fn has_version(line: WrongLine<'_, '_>) -> bool {
     match line.word(1) {
         Some(number) => matches!(number, b"1" | b"2" | b"no-since"),
         None => false,

@@ -192,9 +192,13 @@ Example: lockup check --explain examples/illegal_trace.txt";
 
 /// What stands below the options of `judge`.
 pub const JUDGE: &str = "\
-Each core's entries of a word stand in its order, and those of several cores are mixed in any way.
-Of each word it is asked whether its accesses have an order that keeps each core's and explains each
-reply (coherent), or none (incoherent, status 1), with what contradicts itself:
+A history begins with lockup-history 1, and then has lines such as
+
+  core 1 load 9 5 @120..140
+
+for core 1's load of word 9, which was answered 5, and when, if that is known. Each core's lines stand
+in its order. Of each word it is asked whether its accesses have an order that keeps each core's and
+explains each reply (coherent), or none (incoherent, status 1), with what contradicts itself:
 
   incoherent word 9
   line 3 before line 4: core 1 asked for both
@@ -204,7 +208,7 @@ Where values repeat, orders have to be tried: undecided, status 1, if the limit 
 
 Documents: docs/TEXTS.md (judging without an order)
 
-Example: lockup judge examples/incoherent_trace.txt";
+Example: lockup judge examples/incoherent_history.txt";
 
 /// What stands below the options of `export`.
 pub const EXPORT: &str = "\

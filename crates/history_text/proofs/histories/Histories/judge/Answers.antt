@@ -1,6 +1,6 @@
 use Rattle.std.proofs.Common.{ap, sym, ◌∙◌, ◌≡◌, ◌≤◌, Some, None, arith, length}
 use Rattle.address_map.specs.declared.address.WordAddr.{WordAddr}
-use Rattle.slice_log.specs.Log.{initially}
+use Rattle.history_text.specs.Histories.{given_at, initially}
 use Rattle.history_text.proofs.Rows.{ordered_all, ordered_more}
 use Rattle.history_text.proofs.histories.Histories.judge.Goals as goal
 use Rattle.history_text.proofs.histories.Histories.judge.Goals.{in-Coherent+in_ok-push-in-Coherent, in-Undecided, in-Some, in-None}
@@ -24,6 +24,6 @@ returns c = elim c.match-undecided.branch [
       let rows = c.args.self.now.rows.items in
       let all : length rows ≤ c.loop-number.number = omega arith in
       rw w.result-is
-      (ordered_all (initially c.args.self.now.init.items) rows c.loop-number.orders.items c.loop-number.number all
+      (ordered_all (initially (given_at c.args.self.now)) rows c.loop-number.orders.items c.loop-number.number all
       (c.loop-number.invariant w.in-None.is))
 ]

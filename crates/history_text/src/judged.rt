@@ -1,0 +1,27 @@
+ghost use Rattle.std.specs.Prelude.{IfErr, IfOk};
+ghost use Rattle.history_text.specs.Judged.{IsFaultOf, IsJudgedText};
+
+use super::histories::Histories;
+use super::read::read_histories;
+use super::verdict::Verdict;
+use litmus_text::TextFault;
+use std::alloc::Global;
+
+/// The histories of which a text tells, and what they come to.
+#[derive(Debug, Drop)]
+pub struct Judged {
+    pub histories: Histories,
+    pub verdict: Verdict,
+}
+
+/// Reads a text, and judges the histories of which it tells. At most `limit` steps are taken to try orders of a word
+/// whose values repeat.
+#[tactic(auto, unfolding(crate::specs::Judged::IsFaultOf))]
+pub fn judge_text(alloc: Global, input: &[u8], limit: usize) -> Result<Judged, TextFault>
+    ensures judged { IfOk result (λ it. IsJudgedText input.now it.verdict) }
+    ensures fault { IfErr result (IsFaultOf input.now) }
+{
+    let histories = read_histories(alloc, input)?;
+    let verdict = histories.judge(limit)?;
+    Ok(Judged { histories, verdict })
+}

@@ -2,8 +2,9 @@
 the same with a planted bug, which is found at the first answer that differs. The counterexample is
 a script: played by the program its last answer is the golden model's, and it can be drawn.
 
-In SystemVerilog under Verilator (each of three wrong rows), in C++ (each of three bugs of its miss
-registers), and as a trace that is judged as it comes."""
+In SystemVerilog under Verilator (each of four wrong rows), in C++ (each of three bugs of its miss
+registers), and as a trace that is judged as it comes. From what the caches in SystemVerilog answer
+alone `lockup judge` finds three of the wrong rows, one of them also without times."""
 import os
 import re
 import sys
@@ -66,12 +67,33 @@ def test_systemverilog() -> None:
 
 
 @seconds(60)
-@each(lambda: "123")
+@each(lambda: "1234")
 def test_wrong_row(row: str) -> None:
     needs_verilator()
     with tempfile.TemporaryDirectory() as room:
         script = Path(room, "counterexample.txt")
         judge_difference(cosim("systemverilog", row, f"+script={script}"), script)
+
+
+# by row, what the history comes to, with its times and without. A copy that is stale for a while is one that was read
+# earlier, as far as a word's accesses tell, until a store is known to have ended before. A row that lets another message
+# wait changes no answer.
+JUDGED = [("0", "coherent", "coherent"), ("1", "incoherent", "coherent"), ("2", "incoherent", "coherent"),
+          ("3", "incoherent", "incoherent"), ("4", "coherent", "coherent")]
+# what the caches with these rows owe at the end: a message without a row stays in front of its channel
+STUCK = "23"
+
+
+@seconds(60)
+@each(lambda: JUDGED)
+def test_answers_alone(row: str, timed: str, untimed: str) -> None:
+    needs("verilator", "c++", "make")
+    ran = run([FOLDER / "history", row])
+    same("status", 0, ran.status)
+    want(re.fullmatch(r"[1-9]\d* accesses were never answered\n" if row in STUCK else "", ran.err), ran.err)
+    for text, wanted in (ran.out, timed), (re.sub(r" @\S+", "", ran.out), untimed):
+        said = lockup("judge", "-", text=text)
+        same("verdict and status", (wanted, int(wanted != "coherent")), (said.out.split()[0], said.status))
 
 
 @seconds(10)

@@ -21,8 +21,9 @@
  * words: word W is of line W / 8, and line L is of slice L modulo the slices.
  *
  * Codes. A function that returns LOCKUP_OK has made its call; what that came to stands in its outputs. With any other
- * code it has changed nothing, but for LOCKUP_NO_MEMORY of lockup_check_begin and lockup_check_entry, after which the
- * trace is lost. Outputs are always written, with zeros where there is nothing to say.
+ * code it has changed nothing, but for LOCKUP_NO_MEMORY of lockup_check_begin, lockup_check_entry, lockup_judge_begin and
+ * lockup_judge_access, after which the trace or the histories are lost. Outputs are always written, with zeros where
+ * there is nothing to say.
  *
  * Ownership. A handle begins as {0}: it has nothing. lockup_make gives it a machine, and lockup_free takes it away
  * again and leaves {0}. A handle may be moved, but never copied: of two copies both would own the machine. Its field is
@@ -166,6 +167,20 @@ enum { LOCKUP_UNKNOWN = 64 };
 /* verdicts on a trace: legal, or why its first wrong entry is wrong */
 enum { LOCKUP_LEGAL = 0, LOCKUP_WRONG_REPLY = 1, LOCKUP_WRONG_ORDER = 2, LOCKUP_WRONG_SINCE = 3 };
 
+/* judgements on histories */
+enum { LOCKUP_COHERENT = 0, LOCKUP_INCOHERENT = 1, LOCKUP_UNDECIDED = 2 };
+
+/* why an access comes before another in every order, as docs/TEXTS.md has it of `lockup judge` */
+enum {
+    LOCKUP_WHY_UNWRITTEN = 0,   /* it comes nowhere: it found a value that no access left */
+    LOCKUP_WHY_CORE = 1,        /* one core asked for both, in this order */
+    LOCKUP_WHY_INTERVAL = 2,    /* the first had ended when the last began */
+    LOCKUP_WHY_SOURCE = 3,      /* the last found the value that the first alone left */
+    LOCKUP_WHY_INITIAL = 4,     /* the first found the value that the word began with, and the last changed it */
+    LOCKUP_WHY_OVERWRITTEN = 5, /* the first found the value that `other` left and the last overwrote */
+    LOCKUP_WHY_NOT_BETWEEN = 6  /* `other` found the value that the last left, and the first was not between */
+};
+
 /* ---- structs, each of uint64_t alone */
 
 /* a machine, or nothing: begins as {0} */
@@ -173,6 +188,9 @@ typedef struct { void *at; } lockup_machine;
 
 /* a trace that is being judged, or nothing: begins as {0} */
 typedef struct { void *at; } lockup_check;
+
+/* histories that are judged, or nothing: begins as {0} */
+typedef struct { void *at; } lockup_judge;
 
 /* the shape of a machine, as the lines of a script configure it */
 typedef struct {
@@ -325,6 +343,33 @@ typedef struct {
     uint64_t entry;   /* legal: how many entries there are; else the number of the wrong one */
 } lockup_verdict;
 
+/* an access as its core saw it */
+typedef struct {
+    uint64_t core;
+    uint64_t op; /* LOCKUP_LOAD, .. */
+    uint64_t word;
+    uint64_t operand;
+    uint64_t replacement;
+    uint64_t reply; /* of a store it means nothing */
+    uint64_t begin; /* when it was asked for, by a counter that all cores share; 0 where it isn't known */
+    uint64_t end;   /* when it was answered; UINT64_MAX where it isn't known */
+} lockup_access;
+
+/* what histories come to */
+typedef struct {
+    uint64_t verdict; /* LOCKUP_COHERENT, LOCKUP_INCOHERENT or LOCKUP_UNDECIDED */
+    uint64_t word;    /* incoherent, undecided: of which word this was found */
+    uint64_t reasons; /* incoherent: how many reasons the contradiction has; else 0 */
+} lockup_judgement;
+
+/* a reason of a contradiction, which names accesses by their numbers among all that were given, from 0 */
+typedef struct {
+    uint64_t why; /* LOCKUP_WHY_UNWRITTEN, .. */
+    uint64_t first;
+    uint64_t last;  /* it comes after the first in every order */
+    uint64_t other; /* as `why` says, else the last */
+} lockup_reason;
+
 /* ---- the library */
 
 /* The version: 10000 * MAJOR + 100 * MINOR + PATCH. */
@@ -454,6 +499,34 @@ uint32_t lockup_check_verdict(lockup_check *check, lockup_verdict *verdict);
 
 /* Ends the trace, and leaves {0}. */
 uint32_t lockup_check_free(lockup_check *check);
+
+/* ---- histories are judged: what cores asked for and were answered, where the order of several cores isn't known. Each
+ * word's accesses are coherent if some order of them explains each reply, keeps each core's own order, and has an access
+ * that had ended before another began in front of it. */
+
+/* Begins histories. LOCKUP_IN_USE, LOCKUP_NO_MEMORY. */
+uint32_t lockup_judge_new(lockup_judge *judge);
+
+/* Gives a word the value that it begins with, which else is 0. LOCKUP_OUT_OF_RANGE for a word above 524287, or one that
+ * was given a value. LOCKUP_NO_MEMORY ends the histories, and leaves {0}. */
+uint32_t lockup_judge_begin(lockup_judge *judge, uint64_t word, uint64_t value);
+
+/* Takes one more access. A core's accesses of a word come in its own order, those of several cores in any order.
+ * LOCKUP_OUT_OF_RANGE for a core above 63, a word above 524287, an `op` without a name, or an end before the begin.
+ * LOCKUP_NO_MEMORY ends the histories, and leaves {0}. */
+uint32_t lockup_judge_access(lockup_judge *judge, const lockup_access *access);
+
+/* Judges the accesses so far; more may come. A word is decided at once where each value that is read was left by one
+ * access alone and isn't the one that it began with; else up to `limit` steps are taken to try orders of it (`lockup
+ * judge` takes a million). LOCKUP_NO_MEMORY: the histories stay, and the last reasons too. */
+uint32_t lockup_judge_verdict(lockup_judge *judge, uint64_t limit, lockup_judgement *judgement);
+
+/* One of the reasons of the last judgement: of each the first access comes before the last, and in the end one before
+ * itself. */
+uint32_t lockup_judge_reason(lockup_judge *judge, uint64_t nth, lockup_reason *reason);
+
+/* Ends the histories, and leaves {0}. */
+uint32_t lockup_judge_free(lockup_judge *judge);
 
 #ifdef __cplusplus
 }

@@ -245,6 +245,42 @@ static inline uint32_t lockup_checked_check_free(lockup_check *check) {
 }
 #define lockup_check_free lockup_checked_check_free
 
+static inline uint32_t lockup_checked_judge_new(lockup_judge *judge) {
+    if (!judge) return LOCKUP_NULL;
+    return lockup_judge_new(judge);
+}
+#define lockup_judge_new lockup_checked_judge_new
+
+static inline uint32_t lockup_checked_judge_begin(lockup_judge *judge, uint64_t word, uint64_t value) {
+    if (!judge) return LOCKUP_NULL;
+    return lockup_judge_begin(judge, word, value);
+}
+#define lockup_judge_begin lockup_checked_judge_begin
+
+static inline uint32_t lockup_checked_judge_access(lockup_judge *judge, const lockup_access *access) {
+    if (!judge || !access) return LOCKUP_NULL;
+    return lockup_judge_access(judge, access);
+}
+#define lockup_judge_access lockup_checked_judge_access
+
+static inline uint32_t lockup_checked_judge_verdict(lockup_judge *judge, uint64_t limit, lockup_judgement *judgement) {
+    if (!judge || !judgement) return LOCKUP_NULL;
+    return lockup_judge_verdict(judge, limit, judgement);
+}
+#define lockup_judge_verdict lockup_checked_judge_verdict
+
+static inline uint32_t lockup_checked_judge_reason(lockup_judge *judge, uint64_t nth, lockup_reason *reason) {
+    if (!judge || !reason) return LOCKUP_NULL;
+    return lockup_judge_reason(judge, nth, reason);
+}
+#define lockup_judge_reason lockup_checked_judge_reason
+
+static inline uint32_t lockup_checked_judge_free(lockup_judge *judge) {
+    if (!judge) return LOCKUP_NULL;
+    return lockup_judge_free(judge);
+}
+#define lockup_judge_free lockup_checked_judge_free
+
 #ifdef __cplusplus
 }
 #endif

@@ -68,6 +68,12 @@ PROTOTYPES = {
     "check_entry": [HANDLE, BUFFER],
     "check_verdict": [HANDLE, BUFFER],
     "check_free": [HANDLE],
+    "judge_new": [HANDLE],
+    "judge_begin": [HANDLE, WORD, WORD],
+    "judge_access": [HANDLE, BUFFER],
+    "judge_verdict": [HANDLE, WORD, BUFFER],
+    "judge_reason": [HANDLE, WORD, BUFFER],
+    "judge_free": [HANDLE],
 }
 
 

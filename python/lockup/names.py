@@ -148,3 +148,23 @@ class Verdict(IntEnum):
     REPLY = 1
     ORDER = 2
     SINCE = 3
+
+
+class Coherence(IntEnum):
+    """What histories are, or that nobody found out."""
+
+    COHERENT = 0
+    INCOHERENT = 1
+    UNDECIDED = 2
+
+
+class Why(IntEnum):
+    """Why an access comes before another in every order."""
+
+    UNWRITTEN = 0
+    CORE = 1
+    INTERVAL = 2
+    SOURCE = 3
+    INITIAL = 4
+    OVERWRITTEN = 5
+    NOT_BETWEEN = 6

@@ -5,12 +5,12 @@ Each reads the words that the library wrote for its struct of lockup.h.
 from typing import NamedTuple, Optional, Sequence, Tuple, Union
 
 from .names import (
-    NO_CORE, UNKNOWN, Answer, Channel, CopyState, Delivered, DirectoryState, Kind, MessageKind, Op, Refused, Stall,
-    Verdict,
+    NO_CORE, UNKNOWN, Answer, Channel, Coherence, CopyState, Delivered, DirectoryState, Kind, MessageKind, Op, Refused, Stall,
+    Verdict, Why,
 )
 
 Block = Tuple[int, ...]
-Reason = Union[Stall, Refused, None]
+Cause = Union[Stall, Refused, None]
 
 # messages with a block
 CARRIERS = (MessageKind.PUTM, MessageKind.DATA, MessageKind.DATA_E, MessageKind.HOME)
@@ -26,7 +26,7 @@ def owner_of(number: int) -> Optional[int]:
     return None if number == NO_CORE else number
 
 
-def reason_of(answer: int, number: int) -> Reason:
+def reason_of(answer: int, number: int) -> Cause:
     return Stall(number) if answer == Answer.STALL else Refused(number) if answer == Answer.REFUSED else None
 
 
@@ -42,7 +42,7 @@ class Issued(NamedTuple):
     reply: int
 
     @property
-    def reason(self) -> Reason:
+    def reason(self) -> Cause:
         """Why it stalled or was refused, else None."""
         return reason_of(self.answer, self.number)
 
@@ -58,7 +58,7 @@ class Decision(NamedTuple):
     """What an access would be. A hit and a primary miss have the copy's next state, a miss whether a line has to leave."""
 
     kind: Kind
-    reason: Reason
+    reason: Cause
     next: Optional[CopyState]
     victim: bool
 
@@ -264,6 +264,28 @@ class Entry(NamedTuple):
     def of(cls, words: Sequence[int]) -> "Entry":
         core, seq, tag, op, *rest = words
         return cls(core, seq, tag, OPS[op], *rest)
+
+
+class Reason(NamedTuple):
+    """A reason of a contradiction: in every order the `first` access comes before the `last`, and of which other access
+    that tells. Accesses go by their numbers among all that were given, from 0."""
+
+    why: Why
+    first: int
+    last: int
+    other: int
+
+
+class Judgement(NamedTuple):
+    """What histories come to: of which word this was found, and of an incoherent one the contradiction. It is true where
+    they are coherent."""
+
+    verdict: Coherence
+    word: Optional[int]
+    reasons: Tuple[Reason, ...]
+
+    def __bool__(self) -> bool:
+        return self.verdict == Coherence.COHERENT
 
 
 class Judged(NamedTuple):

@@ -246,7 +246,7 @@ def test_out_of_range() -> None:
 
 def null_calls() -> Iterator[str]:
     """Returns a call for each pointer of each function, in which it is NULL and all others are fine."""
-    places = {"lockup_machine": "&machine", "lockup_check": "&check", "lockup_config": "&config"}
+    places = {"lockup_machine": "&machine", "lockup_check": "&check", "lockup_judge": "&judge", "lockup_config": "&config"}
     for name, rows in header_parameters().items():
         fine = [f"({it.rpartition('*')[0]}*)buffer" if "*" in it else "0" for it in rows]
         fine = [places.get(it.replace("const ", "").split()[0], value) for it, value in zip(rows, fine)]
@@ -269,15 +269,17 @@ static uint64_t buffer[16];
 int main(void) {{
     lockup_machine machine = {{0}};
     lockup_check check = {{0}};
+    lockup_judge judge = {{0}};
     lockup_config config;
     uint64_t entries = 77;
     int bad = 0;
     lockup_defaults(&config);
     if (lockup_make_with(&machine, &config, NULL, 0, NULL, 0) || lockup_check_new(&check)) return 3;
+    if (lockup_judge_new(&judge)) return 3;
     for (int at = 0; at < 16; at++) buffer[at] = 77;
 {tries}    for (int at = 0; at < 16; at++) bad += buffer[at] != 77;
     if (lockup_entries(&machine, 0, &entries) || entries != 0) return 4;
-    return lockup_free(&machine) || lockup_check_free(&check) ? 5 : bad;
+    return lockup_free(&machine) || lockup_check_free(&check) || lockup_judge_free(&judge) ? 5 : bad;
 }}
 """
     with tempfile.TemporaryDirectory() as room:
@@ -658,7 +660,7 @@ def test_judge_beside_check(_: str, seed: int) -> None:
 
 # ---- Python
 
-@each(lambda: ["machine", "judge"])
+@each(lambda: ["machine", "judge", "histories"])
 def test_examples_of_the_module(part: str) -> None:
     library = module()
     tested = doctest.testmod(part_of(part), extraglobs={it: getattr(library, it) for it in library.__all__})
@@ -670,7 +672,7 @@ def test_shown_python() -> None:
     """What docs/LIBRARY.md shows prints what stands behind its prints."""
     module()
     blocks = re.findall(r"```python\n(.*?)```", read(ROOT / "docs/LIBRARY.md"), re.S)
-    same("blocks", 2, len(blocks))
+    same("blocks", 3, len(blocks))
     for block in blocks:
         wanted = "".join(f"{it}\n" for it in re.findall(r"^ *print\(.*\) +# (.*)$", block, re.M))
         code = run([sys.executable, "-c", block], env={**os.environ, "PYTHONPATH": str(ROOT / "python")})
@@ -804,6 +806,8 @@ def test_numbers_of_systemverilog() -> None:
 RENAMED = {
     "REFUSED_OUT_OF_RANGE": "NO_WORD",
     "VERDICT_REPLY": "WRONG_REPLY", "VERDICT_ORDER": "WRONG_ORDER", "VERDICT_SINCE": "WRONG_SINCE",
+    **{f"WHY_{it}": f"WHY_{it}" for it in ("UNWRITTEN", "CORE", "INTERVAL", "SOURCE", "INITIAL", "OVERWRITTEN",
+                                          "NOT_BETWEEN")},
     **{f"DIRECTORYSTATE_{it}": f"DIR_{it}" for it in ("I", "S", "M", "S_D")},
     **{f"MESSAGEKIND_{it}": f"MSG_{it}" for it in ("GETS", "GETM", "PUTS", "PUTM", "FWD_GETS", "FWD_GETM", "INV",
                                                   "PUT_ACK", "DATA", "DATA_E", "INV_ACK", "HOME")},
@@ -837,7 +841,7 @@ def header_functions() -> dict[str, list[str]]:
     return {name: [kind_of(it) for it in rows] for name, rows in header_parameters().items()}
 
 
-HANDLES = ("lockup_machine", "lockup_check")
+HANDLES = ("lockup_machine", "lockup_check", "lockup_judge")
 
 
 def header_words() -> dict[str, int]:
@@ -851,7 +855,7 @@ def header_words() -> dict[str, int]:
 
 
 def kind_of(parameter: str) -> str:
-    if parameter.startswith(HANDLES):
+    if parameter.split()[0] in HANDLES:
         return "handle"
     return "buffer" if "*" in parameter else "number"
 
@@ -875,7 +879,7 @@ def test_functions_of_systemverilog() -> None:
     outputs = {name: [int(it or 1) for it in re.findall(r"output longint unsigned \w+(?:\[(\d+)\])?", body)]
                for name, body in re.findall(r"function int unsigned lockup_(\w+)\((.*?)\);", text)}
     words = header_words()
-    wanted = {name: [words[it.split()[0]] for it in rows if "*" in it and not it.startswith(("const", *HANDLES))]
+    wanted = {name: [words[it.split()[0]] for it in rows if "*" in it and it.split()[0] not in ("const", *HANDLES)]
               for name, rows in header_parameters().items()}
     same("words of outputs", wanted, outputs)
 

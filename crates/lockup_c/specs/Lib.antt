@@ -1,6 +1,7 @@
 pub mod Calls
 pub mod Checks
 pub mod Counts
+pub mod Judges
 pub mod Lines
 pub mod Looks
 pub mod Made

@@ -93,6 +93,7 @@ pub record HasCopy (simulator : Simulator) (held : Option Held) : Type 0 where
 abbrev pub Copies : ℕ → Held → Option Held → Type 0
 Copies code (helds.Machine simulator) new = ((code ≡ 0) × HasCopy simulator new) ⊎ ((code ≡ 3) × (new ≡ None))
 Copies code (helds.Trace judge) new = (code ≡ 1) × (new ≡ None)
+Copies code (helds.Histories judged) new = (code ≡ 1) × (new ≡ None)
 
 abbrev pub Clones : ℕ → Option Held → Option Held → Option Held → Type 0
 Clones code held (Some other) new = (code ≡ 4) × (new ≡ Some other)

@@ -73,7 +73,7 @@ fn name_word(held: &mut Held, word: u64, value: u64) -> u32
 {
     match held {
         Held::Trace(judge) => add_word(judge, word, value),
-        Held::Machine(_) => NO_MACHINE,
+        Held::Machine(_) | Held::Histories(_) => NO_MACHINE,
     }
 }
 
@@ -126,7 +126,7 @@ fn take_entry(held: &mut Held, numbers: &EntryNumbers) -> u32
 {
     match held {
         Held::Trace(judge) => add_entry(judge, numbers),
-        Held::Machine(_) => NO_MACHINE,
+        Held::Machine(_) | Held::Histories(_) => NO_MACHINE,
     }
 }
 

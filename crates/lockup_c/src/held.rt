@@ -1,3 +1,4 @@
+use super::histories::JudgedHistories;
 use simulator::{Simulator, TraceJudge};
 
 /// What a handle may have.
@@ -5,4 +6,5 @@ use simulator::{Simulator, TraceJudge};
 pub enum Held {
     Machine(Simulator),
     Trace(TraceJudge),
+    Histories(JudgedHistories),
 }

@@ -11,12 +11,16 @@
 
 pub use handle::Handle;
 pub use held::Held;
+pub use histories::JudgedHistories;
 
 mod check;
 mod codes;
+mod contradiction;
 mod counts;
 mod handle;
 mod held;
+mod histories;
+mod judge;
 mod lines;
 mod looks;
 mod made;

@@ -152,6 +152,36 @@ pub struct VerdictNumbers {
 
 #[repr(C)]
 #[derive(Clone, Copy)]
+pub struct AccessNumbers {
+    pub core: u64,
+    pub op: u64,
+    pub word: u64,
+    pub operand: u64,
+    pub replacement: u64,
+    pub reply: u64,
+    pub begin: u64,
+    pub end: u64,
+}
+
+#[repr(C)]
+#[derive(Clone, Copy)]
+pub struct JudgementNumbers {
+    pub verdict: u64,
+    pub word: u64,
+    pub reasons: u64,
+}
+
+#[repr(C)]
+#[derive(Clone, Copy)]
+pub struct ReasonNumbers {
+    pub why: u64,
+    pub first: u64,
+    pub last: u64,
+    pub other: u64,
+}
+
+#[repr(C)]
+#[derive(Clone, Copy)]
 pub struct CoreCounts {
     pub hits: u64,
     pub primary: u64,

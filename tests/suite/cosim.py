@@ -13,6 +13,8 @@ from pathlib import Path
 
 from harness import ROOT, Ran, each, lockup, needs, read, run, same, seconds, want
 from harness.library import shared
+from suite.histories import Access
+from suite.judged import is_sound
 
 FOLDER = ROOT / "examples/cosim"
 AGREE = "agree: 100000 calls\n"
@@ -84,6 +86,19 @@ JUDGED = [("0", "coherent", "coherent"), ("1", "incoherent", "coherent"), ("2", 
 STUCK = "23"
 
 
+def accesses_of(text: str, word: str) -> dict[int, Access]:
+    """Returns the accesses of a word, by the lines of a history."""
+    found = {}
+    for number, line in enumerate(text.splitlines(), 1):
+        words = line.split()
+        if words[3:4] == [word]:
+            during = [int(it) for it in words.pop()[1:].split("..")] if "@" in line else []
+            values = [int(it) for it in words[4:]]
+            reply = 0 if words[2] == "store" else values.pop()
+            found[number] = Access(int(words[1]), words[2], tuple(values), reply, *during)
+    return found
+
+
 @seconds(60)
 @each(lambda: JUDGED)
 def test_answers_alone(row: str, timed: str, untimed: str) -> None:
@@ -93,7 +108,10 @@ def test_answers_alone(row: str, timed: str, untimed: str) -> None:
     want(re.fullmatch(r"[1-9]\d* accesses were never answered\n" if row in STUCK else "", ran.err), ran.err)
     for text, wanted in (ran.out, timed), (re.sub(r" @\S+", "", ran.out), untimed):
         said = lockup("judge", "-", text=text)
-        same("verdict and status", (wanted, int(wanted != "coherent")), (said.out.split()[0], said.status))
+        first, *steps = said.out.splitlines()
+        same("verdict and status", (wanted, int(wanted != "coherent")), (first.split()[0], said.status))
+        if steps:
+            want(is_sound(steps, 0, accesses_of(text, first.split()[2])), said.out)
 
 
 @seconds(10)

@@ -500,9 +500,9 @@ uint32_t lockup_check_verdict(lockup_check *check, lockup_verdict *verdict);
 /* Ends the trace, and leaves {0}. */
 uint32_t lockup_check_free(lockup_check *check);
 
-/* ---- histories are judged: what cores asked for and were answered, where the order of several cores isn't known. Each
- * word's accesses are coherent if some order of them explains each reply, keeps each core's own order, and has an access
- * that had ended before another began in front of it. */
+/* ---- histories are judged: what cores asked for and were answered, where the order of several cores isn't known. A
+ * word's accesses are coherent if some order of them explains each reply, keeps each core's own order, and has each
+ * access that had ended before another began in front of that. */
 
 /* Begins histories. LOCKUP_IN_USE, LOCKUP_NO_MEMORY. */
 uint32_t lockup_judge_new(lockup_judge *judge);

@@ -10,8 +10,8 @@ from .judge import Judge
 from .library import library as _library
 from .machine import Config, Log, Machine
 from .names import (
-    Answer, Channel, Coherence, CopyState, Delivered, DirectoryState, Evicted, Kind, MessageKind, Misses, Op, Policy, Refused, Stall,
-    Verdict, Why,
+    Answer, Channel, Coherence, CopyState, Delivered, DirectoryState, Evicted, Kind, MessageKind, Misses, Op, Policy,
+    Refused, Stall, Verdict, Why,
 )
 from .values import (
     Copy, CoreCounts, Decision, Delivery, Directory, Entry, Issued, Judged, Judgement, Message, MessageCounts, Planned,
@@ -21,10 +21,11 @@ from .values import (
 __version__ = "0.3.0"
 
 __all__ = [
-    "Answer", "Channel", "Coherence", "Config", "Copy", "CopyState", "CoreCounts", "Decision", "Delivered", "Delivery", "Directory",
-    "DirectoryState", "Entry", "Evicted", "Histories", "InUse", "Issued", "Judge", "Judged", "Judgement", "Kind", "LockupError", "Log", "Machine",
-    "Message", "MessageCounts", "MessageKind", "Misses", "NoMachine", "NoMemory", "NotAllowed", "Op", "OutOfRange",
-    "Planned", "Policy", "Reason", "Receipt", "Refused", "Register", "Stall", "Target", "Verdict", "Why", "library_version",
+    "Answer", "Channel", "Coherence", "Config", "Copy", "CopyState", "CoreCounts", "Decision", "Delivered",
+    "Delivery", "Directory", "DirectoryState", "Entry", "Evicted", "Histories", "InUse", "Issued", "Judge",
+    "Judged", "Judgement", "Kind", "LockupError", "Log", "Machine", "Message", "MessageCounts", "MessageKind",
+    "Misses", "NoMachine", "NoMemory", "NotAllowed", "Op", "OutOfRange", "Planned", "Policy", "Reason", "Receipt",
+    "Refused", "Register", "Stall", "Target", "Verdict", "Why", "library_version",
 ]
 
 

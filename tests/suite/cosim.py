@@ -110,6 +110,8 @@ def test_answers_alone(row: str, timed: str, untimed: str) -> None:
         said = lockup("judge", "-", text=text)
         first, *steps = said.out.splitlines()
         same("verdict and status", (wanted, int(wanted != "coherent")), (first.split()[0], said.status))
+        if row == "2" and steps:
+            want(f"{ran.err}{said.out}```" in read(FOLDER / "README.md"), f"the page shows something else than {said.out}")
         if steps:
             want(is_sound(steps, 0, accesses_of(text, first.split()[2])), said.out)
 

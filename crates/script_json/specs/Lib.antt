@@ -1,5 +1,7 @@
 pub mod Text
 pub mod Call
-pub mod Fields
-pub mod Object
-pub mod Listed
+pub mod Answer
+pub mod Held
+pub mod Slices
+pub mod Value
+pub mod Values

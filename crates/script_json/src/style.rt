@@ -3,13 +3,14 @@ ghost use Rattle.std.specs.Str.Lines.{lines};
 ghost use Rattle.litmus_script.specs.Play.{PlaysUpTo};
 ghost use Rattle.litmus_script.specs.Script.{HasPlayed, IsRun, IsRunUpTo, commands_of};
 ghost use Rattle.litmus_text.specs.Statement.{statements_from};
-ghost use Rattle.script_json.specs.Listed.{Listed};
+ghost use Rattle.script_json.specs.Values.{Listed};
 
 use super::player::Lister;
+use super::writer::ValueWriter;
 use litmus_script::{Commands, Machine, Style, run_in_style};
 use litmus_text::TextFault;
 use mshr_file::MissFile;
-use script_explained::{Explaining, Stepper};
+use script_explained::Stepper;
 use std::alloc::Global;
 use std::io::Write;
 
@@ -32,7 +33,7 @@ struct Listing {
 }
 
 impl Style for Listing {
-    ghost use Rattle.script_json.specs.Listed.{Listed};
+    ghost use Rattle.script_json.specs.Values.{Listed};
 
     ghost playing = { λ _. Listed };
 
@@ -59,8 +60,8 @@ fn play_listed<F: MissFile, W: Write>(
     ensures fault { IfErr result (PlaysUpTo (Listed machine.config) machine.config
         (commands_of commands.entry) machine.slices.items (W.contents out.old) (W.contents out.new)) }
 {
-    let player = Stepper::new(alloc, machine, Explaining { alloc });
-    let answer = Vec::new(alloc);
-    let mut lister = Lister { player, answer };
+    let player = Stepper::new(alloc, machine, ValueWriter { alloc });
+    let items = Vec::new(alloc);
+    let mut lister = Lister { player, items };
     commands.play(&mut lister, out)
 }

@@ -5,7 +5,6 @@ use Rattle.script_json.proofs.object.write_tail.Goals as goal
 pub returns : goal.returns
 returns g c =
     let then = Appends-trans in
-    let answers = rw c.of.ensures.value at c.in_ok-write_answers.ensures in
-    on_ok_weaker c.write_text-2.result
-    (λ last. then _ _ _ _ _ (then _ _ _ _ _ c.in_ok-write_text.ensures.ok answers) last)
-    c.write_text-2.ensures.ok
+    on_ok_weaker c.write_text-3.result
+    (λ last. then _ _ _ _ _ c.in_ok-write_text.ensures.ok (then _ _ _ _ _ c.in_ok-write_text-2.ensures.ok last))
+    c.write_text-3.ensures.ok

@@ -2,8 +2,8 @@ use Rattle.std.proofs.Common.{◌≡◌, [], Some, ap, subst, ◌∙◌}
 use Rattle.std.proofs.lemmas.Result.{IfErr-weaker, on_ok_weaker}
 use Rattle.litmus_script.proofs.PlayLemmas.{all_shown, up_to_shown}
 use Rattle.script_explained.proofs.StepLemmas.{played_from, stopped_from}
-use Rattle.script_explained.specs.Explains.{Explainingly}
-use Rattle.script_json.specs.Listed.{Listed}
+use Rattle.script_explained.specs.Step.{PlaysSteps}
+use Rattle.script_json.specs.Values.{Listed, Values, ValuesNext}
 use Rattle.script_json.proofs.style.play_listed.Goals as goal
 
 pub returns-clause-played : goal.returns-clause-played
@@ -22,7 +22,7 @@ returns-clause-played g c =
             (
               made.0,
               made.1,
-              subst (λ k. Explainingly k old.player.machine.slices.items line command (Some []) (Some made.0)
+              subst (λ k. PlaysSteps Values ValuesNext k old.player.machine.slices.items line command (Some []) (Some made.0)
                   new.player.machine.slices.items) same made.2.2,
               made.3,
             ),
@@ -45,7 +45,7 @@ returns-clause-fault g c =
       (
         made.0,
         made.1,
-        subst (λ k. Explainingly k old.player.machine.slices.items line command (Some []) (Some made.0)
+        subst (λ k. PlaysSteps Values ValuesNext k old.player.machine.slices.items line command (Some []) (Some made.0)
             new.player.machine.slices.items) same made.2.2,
         made.3,
       ),

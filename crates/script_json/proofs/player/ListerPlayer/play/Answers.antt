@@ -9,5 +9,5 @@ returns-in-Ok-clause-plays g c =
       c.play.new.out.items,
       statement.number,
       played,
-      rw c.as_slice-answer.ensures.value at c.in-Ok.ensures,
+      rw c.as_slice-items.ensures.value at c.in-Ok.ensures,
     )

@@ -1,8 +1,0 @@
-use Rattle.script_json.proofs.Items.{first_left}
-use Rattle.script_json.proofs.fields.next_word.Goals as goal
-
-pub returns-clause-first : goal.returns-clause-first
-returns-clause-first c = (first_left c.args.words.now c.next.new.self c.next.result c.next.ensures.steps).0
-
-pub returns-clause-rest : goal.returns-clause-rest
-returns-clause-rest c = (first_left c.args.words.now c.next.new.self c.next.result c.next.ensures.steps).1

@@ -12,7 +12,7 @@ use Rattle.slice_answer.specs.Delivery.{better_of}
 use Rattle.slice_answer.specs.declared.answer.Delivery.TheVariants as deliveries
 use Rattle.slice_answer.specs.declared.answer.Delivery.{Delivery}
 use Rattle.slice_core.specs.Facts.{AreWaitingAt, Holds}
-use Rattle.slice_core_machine.proofs.Requests.{one_line}
+use Rattle.slice_core_theory.proofs.Requests.{one_line}
 use Rattle.slice_core_plan.specs.Calls.{PartsView, next_pick}
 use Rattle.slice_core_plan.specs.Next.{next_by}
 use Rattle.slice_core_plan.specs.Parts.{ring_lines}

@@ -14,8 +14,8 @@ use Rattle.address_map.specs.Place.{counters_of}
 use Rattle.receipt_shares.specs.Totals.{Totals, nothing, only_accepted, only_handed, together, totals}
 use Rattle.slice_log.proofs.Pushes.{slice_get-push}
 use Rattle.slice_log.specs.declared.entry.Entry.{Entry}
-use Rattle.slice_core_machine.specs.SmallMachine.{Asked, Can, IsSame, SmallMachine, Run, accept, after, entry_for, hand}
-use Rattle.slice_core_machine.specs.SmallMachine.{new_small_machine, perform}
+use Rattle.slice_core_theory.specs.SmallMachine.{Asked, Can, IsSame, SmallMachine, Run, accept, after, entry_for, hand}
+use Rattle.slice_core_theory.specs.SmallMachine.{new_small_machine, perform}
 
 -- one more that is handed out is counted as such, wherever it stands
 pub totals-one_more : (words : List WordAddr) (n : ℕ) (e : Entry) (old new : List Entry) → OneMore e old new

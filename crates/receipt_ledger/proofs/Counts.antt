@@ -9,9 +9,9 @@ use Rattle.std.proofs.lemmas.List.{length-append, length-set}
 use Rattle.std.proofs.lemmas.List.Edits.{length-remove}
 use Rattle.std.proofs.lemmas.List.Elements.{Contains-append_left, Contains-get_or, Contains-push, Contains-push_cases}
 use Rattle.std.proofs.lemmas.List.Quantifiers.{all_pairs_push, all_pairs_remove}
-use Rattle.slice_core_machine.specs.SmallMachine.{Asked, Can, IsSame, SmallMachine, accept, after, entry_for, hand}
-use Rattle.slice_core_machine.specs.SmallMachine.{new_small_machine}
-use Rattle.slice_core_machine.specs.SmallMachine.{perform}
+use Rattle.slice_core_theory.specs.SmallMachine.{Asked, Can, IsSame, SmallMachine, accept, after, entry_for, hand}
+use Rattle.slice_core_theory.specs.SmallMachine.{new_small_machine}
+use Rattle.slice_core_theory.specs.SmallMachine.{perform}
 use Rattle.slice_log.specs.declared.entry.Entry.{Entry}
 use Rattle.receipt_ledger.proofs.Removed.{not-contained, still-contained, was-contained}
 use Rattle.receipt_ledger.specs.Counted.{AreMarked, is_handed}

@@ -12,8 +12,8 @@ use Rattle.slice_answer.specs.Stats.{StatsView}
 use Rattle.slice_core_cache.specs.CoreCache.{new_cache}
 use Rattle.slice_core_cache.specs.declared.copy.CacheCopy.{CacheCopy}
 use Rattle.receipt_shares.specs.Totals.{nothing}
-use Rattle.slice_core_machine.specs.SmallMachine.{IsSame, new_small_machine}
-use Rattle.slice_core_machine.specs.Shows.{small_machine_of}
+use Rattle.slice_core_theory.specs.SmallMachine.{IsSame, new_small_machine}
+use Rattle.slice_core_theory.specs.Shows.{small_machine_of}
 use Rattle.slice_core_plan.specs.Calls.{IsNew, PartsView}
 
 map-replicate : {X Y : Type 0} (f : X → Y) (n : ℕ) (x : X) → map f (replicate n x) ≡ replicate n (f x)

@@ -5,10 +5,10 @@ use Rattle.std.proofs.lemmas.List.Elements.{All-get_or}
 use Rattle.address_map.specs.declared.address.CoreId.{CoreId}
 use Rattle.mshr_file.specs.Miss.{targets_of}
 use Rattle.slice_core_cache.specs.CoreCache.{IsCoreCacheQuiet}
-use Rattle.slice_core_machine.proofs.Kept.{named-known}
-use Rattle.slice_core_machine.proofs.Requests.{none-contained, waits-known}
-use Rattle.slice_core_machine.specs.SmallMachine.{Asked}
-use Rattle.slice_core_machine.specs.Shows.{IsNamed, Waits}
+use Rattle.slice_core_theory.proofs.Kept.{named-known}
+use Rattle.slice_core_theory.proofs.Requests.{none-contained, waits-known}
+use Rattle.slice_core_theory.specs.SmallMachine.{Asked}
+use Rattle.slice_core_theory.specs.Shows.{IsNamed, Waits}
 use Rattle.slice_core_plan.specs.View.{View, IsQuiet, no_cache, cache_at}
 
 module _ (v : View) (quiet : IsQuiet v) where

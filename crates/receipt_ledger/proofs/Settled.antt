@@ -32,7 +32,7 @@ use Rattle.receipt_shares.specs.Sums.{at, sums}
 use Rattle.receipt_shares.specs.Totals.{Totals, together, totals}
 use Rattle.slice_log.specs.Log.{IsLegal, IsOrdered, initially, named, value}
 use Rattle.slice_log.specs.declared.entry.Entry.{Entry}
-use Rattle.slice_core_machine.specs.SmallMachine.{Asked}
+use Rattle.slice_core_theory.specs.SmallMachine.{Asked}
 use Rattle.slice_core_plan.specs.Calls.{PartsView}
 use Rattle.slice_core_plan.specs.View.{View, IsQuiet}
 

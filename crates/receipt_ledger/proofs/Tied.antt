@@ -21,8 +21,8 @@ use Rattle.slice_answer.specs.declared.answer.Issue.{Issue}
 use Rattle.slice_answer.specs.declared.answer.Issue.TheVariants as issues
 use Rattle.slice_log.specs.Log.{initially}
 use Rattle.slice_log.specs.declared.entry.Entry.{Entry}
-use Rattle.slice_core_machine.specs.SmallMachine.{Asked, accept, after, entry_for, hand, perform}
-use Rattle.slice_core_machine.specs.Shows.{Leads, Performs, issue_steps, next_of, small_machine_of}
+use Rattle.slice_core_theory.specs.SmallMachine.{Asked, accept, after, entry_for, hand, perform}
+use Rattle.slice_core_theory.specs.Shows.{Leads, Performs, issue_steps, next_of, small_machine_of}
 use Rattle.slice_log.specs.declared.entry.Numbered.{Numbered}
 use Rattle.slice_core_plan.specs.Calls.{AfterHand, AfterIssue, PartsView}
 use Rattle.slice_core.specs.Shape.{shape_of}

@@ -9,8 +9,8 @@ use Rattle.receipt_ledger.specs.Slice.{IsSliceOf}
 use Rattle.address_map.specs.Place.{counters_of, is_of_slice}
 use Rattle.receipt_shares.specs.Totals.{Totals, totals}
 use Rattle.slice_log.specs.declared.entry.Entry.{Entry}
-use Rattle.slice_core_machine.specs.SmallMachine.{Asked, SmallMachine}
-use Rattle.slice_core_machine.specs.Shows.{small_machine_of}
+use Rattle.slice_core_theory.specs.SmallMachine.{Asked, SmallMachine}
+use Rattle.slice_core_theory.specs.Shows.{small_machine_of}
 use Rattle.slice_core_plan.specs.Decision.{overwrites}
 use Rattle.slice_core_plan.specs.Calls.{PartsView}
 

@@ -1,6 +1,6 @@
 -- The small machine of a slice, counted: which requests wait, and which entries of its log are handed out.
 use Rattle.std.specs.Prelude.{◌≡◌, ◌≢◌, ℕ, Bool, true, false, List, [], ◌∷◌, length, slice_index_or, AllPairs, Contains}
-use Rattle.slice_core_machine.specs.SmallMachine.{Asked, SmallMachine}
+use Rattle.slice_core_theory.specs.SmallMachine.{Asked, SmallMachine}
 use Rattle.slice_log.specs.declared.entry.Entry.{Entry}
 
 -- whether the entry of this number is marked as handed out; none waits past the last

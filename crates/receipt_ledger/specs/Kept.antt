@@ -4,7 +4,7 @@ use Rattle.address_map.specs.declared.config.Config.{Config}
 use Rattle.receipt_ledger.specs.Booked.{IsTied}
 use Rattle.receipt_shares.specs.Totals.{Totals}
 use Rattle.slice_core.specs.Facts.{IsSameSlice}
-use Rattle.slice_core_machine.specs.Shows.{Leads, Performs}
+use Rattle.slice_core_theory.specs.Shows.{Leads, Performs}
 use Rattle.slice_core_plan.specs.Calls.{PartsView}
 
 -- A book that belongs to a state belongs to the state that a delivery leaves: what a delivery performs, if anything, was

@@ -10,7 +10,7 @@ ghost use Rattle.address_map.specs.Place.{counters_of};
 ghost use Rattle.receipt_shares.specs.Totals.{only_accepted, together};
 ghost use Rattle.slice_core.specs.Facts.{IsSameSlice};
 ghost use Rattle.slice_log.specs.declared.entry.Entry.{Entry};
-ghost use Rattle.slice_core_machine.specs.Shows.{Leads, issue_steps, next_of};
+ghost use Rattle.slice_core_theory.specs.Shows.{Leads, issue_steps, next_of};
 
 use super::port::{Port, entry_at};
 use super::receipt::{Answer, LearnError, Receipt};

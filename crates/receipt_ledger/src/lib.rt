@@ -18,7 +18,7 @@
 //!   and the sum of what their receipts add to it, modulo 2^64.
 //!
 //! That a state and a book belong together (`IsTied` of `specs/Booked.antt`) is asked of whoever calls, and kept. The
-//! slice is seen there as the small machine of `slice_core_machine`: how many requests wait and were performed, and
+//! slice is seen there as the small machine of `slice_core_theory`: how many requests wait and were performed, and
 //! which entries of the log are handed out. Deliveries and evictions of the state keep it too
 //! ([`deliveries_keep_the_book`]). What the book counts as accepted is what the cores had accepted
 //! ([`accepted_are_the_cores_own`]).

@@ -3,8 +3,8 @@ ghost use Rattle.receipt_ledger.specs.Booked.{IsTied};
 ghost use Rattle.receipt_ledger.specs.Port.{AreFreshPorts};
 ghost use Rattle.receipt_shares.specs.Names.{AreLedgersOf};
 ghost use Rattle.receipt_shares.specs.Totals.{nothing};
-ghost use Rattle.slice_core_machine.specs.SmallMachine.{IsSame, new_small_machine};
-ghost use Rattle.slice_core_machine.specs.Shows.{small_machine_of};
+ghost use Rattle.slice_core_theory.specs.SmallMachine.{IsSame, new_small_machine};
+ghost use Rattle.slice_core_theory.specs.Shows.{small_machine_of};
 ghost use Rattle.slice_core_plan.specs.Calls.{IsNew};
 
 use super::book::Book;

@@ -39,12 +39,12 @@ use Rattle.slice_core_cache.specs.declared.access.AccessKind.TheVariants as acce
 use Rattle.slice_core_cache.specs.declared.access.Ask.{Ask}
 use Rattle.slice_core_cache.specs.declared.access.Placement.{Placement}
 use Rattle.slice_core_cache.specs.declared.access.Placement.TheVariants as placements
-use Rattle.slice_core_coherence.proofs.Judged.{is_judged}
-use Rattle.slice_core_coherence.proofs.KeptByCalls.{located}
-use Rattle.slice_core_coherence.proofs.Planned.{IsFor, is_for}
-use Rattle.slice_core_coherence.proofs.Settling.{ack_comes, data_comes, filled-state}
-use Rattle.slice_core_coherence.proofs.Victims.{has_victim_for}
-use Rattle.slice_core_coherence.specs.Whole.{IsWhole}
+use Rattle.slice_core_theory.proofs.Judged.{is_judged}
+use Rattle.slice_core_theory.proofs.KeptByCalls.{located}
+use Rattle.slice_core_theory.proofs.Planned.{IsFor, is_for}
+use Rattle.slice_core_theory.proofs.Settling.{ack_comes, data_comes, filled-state}
+use Rattle.slice_core_theory.proofs.Victims.{has_victim_for}
+use Rattle.slice_core_theory.specs.Whole.{IsWhole}
 use Rattle.slice_core_plan.specs.Calls.{PartsView, AfterAccepting, AfterAccess, AfterDelivery, AfterEvict}
 use Rattle.slice_core_plan.specs.Calls.{AfterHand, AfterIssue, AfterPlan, IsAccepted, LacksMemory, local_in}
 use Rattle.slice_core_plan.specs.Decision.{decision_at, decision_of, is_counter, overwrites}

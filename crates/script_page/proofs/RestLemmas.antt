@@ -34,7 +34,7 @@ use Rattle.slice_answer.specs.declared.answer.Issue.{Issue}
 use Rattle.slice_answer.specs.declared.answer.Refused.{Refused}
 use Rattle.slice_core.proofs.SameSlice.{same-issue}
 use Rattle.slice_core.specs.Facts.{Holds}
-use Rattle.slice_core_coherence.specs.Whole.{IsWhole}
+use Rattle.slice_core_theory.specs.Whole.{IsWhole}
 use Rattle.slice_core_plan.specs.Calls.{PartsView, AfterDelivery, AfterEvict, AfterHand, AfterIssue}
 use Rattle.slice_core_plan.specs.View.{View}
 use Rattle.slice_log.specs.declared.entry.Numbered.{Numbered}

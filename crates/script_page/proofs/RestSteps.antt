@@ -28,10 +28,10 @@ use Rattle.slice_core_cache.specs.declared.access.Ask.{Ask}
 use Rattle.slice_core_cache.specs.declared.access.Placement.{Placement}
 use Rattle.slice_core_cache.specs.declared.access.Placement.TheVariants as placements
 use Rattle.slice_core_cache.specs.declared.copy.CacheCopy.{CacheCopy}
-use Rattle.slice_core_coherence.proofs.Accesses.{HasPlace, HasPlaceFor, HasVictimFor, cache_replaced, can_leave, has_way}
-use Rattle.slice_core_coherence.proofs.Accesses.{opens}
-use Rattle.slice_core_coherence.proofs.Frame.{by_number, read-set}
-use Rattle.slice_core_coherence.proofs.Settling.{waits-held}
+use Rattle.slice_core_theory.proofs.Accesses.{HasPlace, HasPlaceFor, HasVictimFor, cache_replaced, can_leave, has_way}
+use Rattle.slice_core_theory.proofs.Accesses.{opens}
+use Rattle.slice_core_theory.proofs.Frame.{by_number, read-set}
+use Rattle.slice_core_theory.proofs.Settling.{waits-held}
 use Rattle.slice_core_plan.specs.Steps.{after_directory, after_evict, after_forwarded, after_hand, after_hit, after_home}
 use Rattle.slice_core_plan.specs.Steps.{after_join, after_open, after_opening, after_settling, with_way}
 use Rattle.slice_core_plan.specs.View.{View, IsShaped, cache_at, channels_at, entry_at, no_cache, no_entry}

@@ -16,8 +16,8 @@ use Rattle.slice_log.proofs.Pushes.{IsOrdered-nil}
 use Rattle.slice_core_plan.specs.Calls.{PartsView, IsNew}
 use Rattle.slice_core_plan.specs.View.{channels_at, no_cache, cache_at, IsShaped}
 use Rattle.slice_core_cache.specs.CoreCache.{CoreCacheView, new_cache}
-use Rattle.slice_core_standing.proofs.Begins.{account-begins}
-use Rattle.slice_core_standing.specs.Standing.{target_count}
+use Rattle.slice_core_theory.proofs.Begins.{account-begins}
+use Rattle.slice_core_theory.specs.Standing.{target_count}
 use Rattle.slice_core.proofs.AccountsKept.{Keeps}
 use Rattle.slice_core.specs.Sound.{HasAccounts, HasFittingCounts}
 use Rattle.slice_queues.specs.Line.{LineChannels, empty_line, no_messages}

@@ -10,7 +10,7 @@ use Rattle.slice_core_cache.specs.CoreCache.{CoreCacheView}
 use Rattle.slice_core_cache.specs.Targets.{IsPerformable}
 use Rattle.slice_core_plan.specs.Calls.{PartsView, CanDeliver}
 use Rattle.slice_core_plan.specs.View.{cache_at}
-use Rattle.slice_core_standing.proofs.Facts.{all-performable, waiting-line}
+use Rattle.slice_core_theory.proofs.StandingFacts.{all-performable, waiting-line}
 use Rattle.slice_core.proofs.AccountsFacts.{cache-missing}
 use Rattle.slice_core.proofs.CountedStats.{waiting-within}
 use Rattle.slice_core.specs.Sound.{IsSound}

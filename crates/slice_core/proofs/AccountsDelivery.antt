@@ -28,7 +28,7 @@ use Rattle.slice_core_cache.specs.Steps.{copy_after_ack}
 use Rattle.slice_core_cache.specs.declared.copy.CacheCopy.{CacheCopy}
 use Rattle.slice_core.proofs.AccountsKept.{HasSame, Keeps, counts-before, keeps-from_sound, keeps-posted, keeps-settled}
 use Rattle.slice_core.proofs.AccountsKept.{keeps-cache, keeps-ring}
-use Rattle.slice_core_machine.proofs.Planned.{held-at_way, is_for_copy, way_in, planned-core, planned-way}
+use Rattle.slice_core_theory.proofs.MachinePlanned.{held-at_way, is_for_copy, way_in, planned-core, planned-way}
 use Rattle.slice_core.proofs.CountedLines.{cores-asked, cores-cache, cores-directory, cores-taken}
 use Rattle.slice_core.proofs.CountedStats.{counts-same, same-message}
 use Rattle.slice_core.proofs.CountedSteps.{after_step, shaped-channels, shaped-entry}

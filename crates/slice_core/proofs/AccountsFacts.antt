@@ -8,8 +8,8 @@ use Rattle.address_map.specs.declared.address.CoreId.{CoreId}
 use Rattle.slice_core_cache.specs.CoreCache.{CoreCacheView}
 use Rattle.slice_core_plan.specs.Calls.{PartsView, AfterHand}
 use Rattle.slice_core_plan.specs.View.{View, no_cache, cache_at}
-use Rattle.slice_core_standing.proofs.Grown.{no_entry-standings}
-use Rattle.slice_core_standing.specs.Standing.{standings}
+use Rattle.slice_core_theory.proofs.Grown.{no_entry-standings}
+use Rattle.slice_core_theory.specs.Standing.{standings}
 use Rattle.slice_log.specs.Log.{IsOrdered}
 use Rattle.slice_log.specs.declared.entry.Entry.{Entry}
 use Rattle.slice_log.specs.declared.entry.Numbered.{Numbered}

@@ -28,7 +28,7 @@ use Rattle.slice_core_cache.specs.declared.access.Ask.{Ask}
 use Rattle.slice_core_cache.specs.declared.access.Placement.{Placement}
 use Rattle.slice_core_cache.specs.declared.access.Placement.TheVariants as placements
 use Rattle.slice_core_cache.specs.declared.tags.TagState.TheVariants as tag_states
-use Rattle.slice_core_machine.proofs.Judged.{hit-alone, judged, IsJudged}
+use Rattle.slice_core_theory.proofs.MachineJudged.{hit-alone, judged, IsJudged}
 use Rattle.slice_core.proofs.AccountsKept.{HasSame, Keeps, counts-before, keeps-added, keeps-hit, keeps-posted}
 use Rattle.slice_core.proofs.AccountsKept.{keeps-cache, keeps-ring}
 use Rattle.slice_core.proofs.CountedLines.{cores-sent}

@@ -17,17 +17,17 @@ use Rattle.slice_core_cache.specs.Copy.{performed_on}
 use Rattle.slice_core_cache.specs.Perform.{entries_of, tags_after}
 use Rattle.slice_core_cache.specs.CoreCache.{CoreCacheView, tag_at}
 use Rattle.slice_core_cache.specs.declared.tags.TagState.TheVariants as tag_states
-use Rattle.slice_core_standing.proofs.Added.{account-added, waiting-added}
-use Rattle.slice_core_standing.proofs.Handed.{account-handed}
-use Rattle.slice_core_standing.proofs.Hit.{account-hit, ordered-hit}
-use Rattle.slice_core_standing.proofs.Ordered.{ordered-settled}
-use Rattle.slice_core_standing.proofs.Settled.{account-settled, entries-all, waiting-taken}
-use Rattle.slice_core_standing.specs.Standing.{target_count}
+use Rattle.slice_core_theory.proofs.Added.{account-added, waiting-added}
+use Rattle.slice_core_theory.proofs.StandingHanded.{account-handed}
+use Rattle.slice_core_theory.proofs.Hit.{account-hit, ordered-hit}
+use Rattle.slice_core_theory.proofs.Ordered.{ordered-settled}
+use Rattle.slice_core_theory.proofs.StandingSettled.{account-settled, entries-all, waiting-taken}
+use Rattle.slice_core_theory.specs.Standing.{target_count}
 use Rattle.slice_core.proofs.AccountsSteps.{accounts-posted, accounts-step, own-more, own-none}
 use Rattle.slice_core.proofs.CountedStats.{counts-same, waiting-within}
 use Rattle.slice_core.proofs.CountedSteps.{Counts, CountsSame, after_step, counted-posted, counted-step}
 use Rattle.slice_core.specs.Sound.{HasAccounts, HasLinks, HasFittingCounts, IsSound}
-use Rattle.slice_core_coherence.specs.Newest.{IsFaithful}
+use Rattle.slice_core_theory.specs.Newest.{IsFaithful}
 use Rattle.target_list.specs.declared.target.Target.{Target}
 
 -- The counts are right, and each core's requests are accounted for.

@@ -6,22 +6,22 @@ use Rattle.address_map.specs.declared.address.Local.{Local}
 use Rattle.address_map.specs.declared.address.WordAddr.{WordAddr}
 use Rattle.slice_answer.specs.declared.answer.Cell.{Cell}
 use Rattle.slice_answer.specs.declared.answer.Delivered.{Delivered}
-use Rattle.slice_core_coherence.proofs.KeptByCalls.{located}
-use Rattle.slice_core_coherence.specs.Whole.{IsAddressed, IsWhole}
-use Rattle.slice_core_coherence.proofs.Bounded as bounds
-use Rattle.slice_core_coherence.proofs.Consequences.{one_writer}
-use Rattle.slice_core_coherence.proofs.Unbroken.{whole_is_unbroken}
-use Rattle.slice_core_coherence.specs.Coherent.{HasBoundedChannels, HasOneWriter, NothingIsBroken}
+use Rattle.slice_core_theory.proofs.KeptByCalls.{located}
+use Rattle.slice_core_theory.specs.Whole.{IsAddressed, IsWhole}
+use Rattle.slice_core_theory.proofs.Bounded as bounds
+use Rattle.slice_core_theory.proofs.Consequences.{one_writer}
+use Rattle.slice_core_theory.proofs.Unbroken.{whole_is_unbroken}
+use Rattle.slice_core_theory.specs.Coherent.{HasBoundedChannels, HasOneWriter, NothingIsBroken}
 use Rattle.slice_core_plan.specs.Calls.{PartsView, AfterDeliverNext, AfterDelivery, AfterPlan, local_in}
 use Rattle.slice_core_plan.specs.Plan.{plan_of, planned_in}
 use Rattle.slice_core_plan.specs.View.{IsQuiet, first_word}
 use Rattle.slice_core.proofs.AccountsCan.{can-deliver}
 use Rattle.slice_core.proofs.AccountsFacts as facts
 use Rattle.slice_core.specs.Facts.{Holds, IsReached, IsNotBroken, IsNotBrokenNext, ShowsLast, ShowsWord}
-use Rattle.slice_core_coherence.proofs.BlocksAccesses.{word_of_line}
-use Rattle.slice_core_coherence.proofs.BlocksCalls.{line_located}
-use Rattle.slice_core_coherence.proofs.Current.{newest, reached_without}
-use Rattle.slice_core_coherence.proofs.QuietNewest.{quiet_newest}
+use Rattle.slice_core_theory.proofs.BlocksAccesses.{word_of_line}
+use Rattle.slice_core_theory.proofs.BlocksCalls.{line_located}
+use Rattle.slice_core_theory.proofs.Current.{newest, reached_without}
+use Rattle.slice_core_theory.proofs.QuietNewest.{quiet_newest}
 use Rattle.slice_log.specs.Log.{initially, value}
 use Rattle.slice_core.specs.Sound.{IsSound}
 use Rattle.slice_queues_message.specs.Pick.{channel_of, line_of}

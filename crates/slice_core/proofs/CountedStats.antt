@@ -11,7 +11,7 @@ use Rattle.slice_answer.specs.declared.stats.CoreStats.{CoreStats}
 use Rattle.slice_core_plan.specs.Calls.{PartsView}
 use Rattle.slice_core_plan.specs.View.{no_cache, cache_at}
 use Rattle.slice_core_cache.specs.CoreCache.{CoreCacheView}
-use Rattle.slice_core_standing.specs.Standing.{is_of, target_count}
+use Rattle.slice_core_theory.specs.Standing.{is_of, target_count}
 use Rattle.slice_core.proofs.CountedSteps.{Counts, CountsSame}
 use Rattle.slice_core.specs.Sound.{HasAccounts, HasFittingCounts}
 use Rattle.slice_queues_message.specs.declared.channel.Channel.{Channel}

@@ -13,7 +13,7 @@ use Rattle.slice_core_plan.specs.Calls.{PartsView}
 use Rattle.slice_core_plan.specs.View.{View, channels_at, no_cache, cache_at, with_channels, with_entry, with_cache}
 use Rattle.slice_core_plan.specs.View.{IsShaped}
 use Rattle.slice_core_cache.specs.CoreCache.{CoreCacheView}
-use Rattle.slice_core_standing.specs.Standing.{target_count}
+use Rattle.slice_core_theory.specs.Standing.{target_count}
 use Rattle.slice_core.specs.Sound.{HasFittingCounts}
 use Rattle.slice_queues.specs.Line.{LineChannels, empty_line}
 

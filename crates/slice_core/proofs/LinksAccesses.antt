@@ -15,8 +15,8 @@ use Rattle.cache_table.specs.declared.state.CopyState.{CopyState}
 use Rattle.mshr_file.proofs.Changes.{has_miss-added}
 use Rattle.mshr_file.specs.Miss.{AddsTarget, has_miss, targets_of}
 use Rattle.mshr_file.specs.declared.registers.Register.{Register}
-use Rattle.slice_core_coherence.proofs.Accesses.{can_leave, has_way, sends_for, cache_replaced, HasPlace, HasPlaceFor}
-use Rattle.slice_core_coherence.proofs.Accesses.{HasVictim, HasVictimFor}
+use Rattle.slice_core_theory.proofs.Accesses.{can_leave, has_way, sends_for, cache_replaced, HasPlace, HasPlaceFor}
+use Rattle.slice_core_theory.proofs.Accesses.{HasVictim, HasVictimFor}
 use Rattle.slice_core_plan.specs.Steps.{after_evict, after_hand, after_hit, after_join, after_open, after_opening}
 use Rattle.slice_core_plan.specs.Steps.{after_request, request_of, with_way}
 use Rattle.slice_core_plan.specs.View.{View, channels_at, entry_at, no_cache, cache_at, with_cache, IsShaped}

@@ -15,7 +15,7 @@ use Rattle.cache_table.specs.declared.row.Row.{Row}
 use Rattle.cache_table.specs.declared.row.Row.TheVariants as rows
 use Rattle.cache_table.specs.declared.state.CopyState.{CopyState}
 use Rattle.cache_table.specs.declared.state.CopyState.TheVariants as copy_states
-use Rattle.slice_core_coherence.proofs.Accesses.{sends_for}
+use Rattle.slice_core_theory.proofs.Accesses.{sends_for}
 use Rattle.slice_core_plan.specs.Steps.{request_of}
 use Rattle.slice_core_cache.specs.Access.{event_of}
 use Rattle.slice_core_cache.specs.Copy.{may_leave}

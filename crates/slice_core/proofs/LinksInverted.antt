@@ -41,8 +41,8 @@ use Rattle.slice_core_cache.specs.declared.access.Placement.TheVariants as place
 use Rattle.slice_core_cache.specs.declared.copy.CacheCopy.{CacheCopy}
 use Rattle.slice_core_cache.specs.declared.tags.TagState.{TagState}
 use Rattle.slice_core_cache.specs.declared.tags.TagState.TheVariants as tag_states
-use Rattle.slice_core_standing.specs.Standing.{is_open}
-use Rattle.slice_core_machine.proofs.Judged.{judged, IsJudged}
+use Rattle.slice_core_theory.specs.Standing.{is_open}
+use Rattle.slice_core_theory.proofs.MachineJudged.{judged, IsJudged}
 use Rattle.slice_core.specs.Facts.{IsInverted, NeedsNoRegister}
 use Rattle.slice_core.specs.Sound.{HasAccounts, IsSound}
 use Rattle.writeback_buffer.specs.Buffer.{held_at as buffer_at}

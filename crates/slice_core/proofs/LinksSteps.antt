@@ -1,7 +1,7 @@
 -- Each access and each message that is taken keeps what copies, registers and requests owe each other.
 use Rattle.std.proofs.Common.{refl}
-use Rattle.slice_core_coherence.proofs.Steps.{KeepsAccesses, KeepsMessages}
-use Rattle.slice_core_coherence.specs.Whole.{IsWhole}
+use Rattle.slice_core_theory.proofs.Steps.{KeepsAccesses, KeepsMessages}
+use Rattle.slice_core_theory.specs.Whole.{IsWhole}
 use Rattle.slice_core_plan.specs.Calls.{filled_by}
 use Rattle.slice_core_plan.specs.View.{channels_at, cache_at}
 use Rattle.slice_core_cache.specs.CoreCache.{array_copy}

@@ -10,10 +10,10 @@ use Rattle.slice_answer.specs.declared.answer.Issue.{Issue}
 use Rattle.slice_answer.specs.declared.answer.Refused.{Refused}
 use Rattle.slice_log.specs.Log.{IsLegal, initially}
 use Rattle.slice_log.specs.declared.entry.Numbered.{Numbered}
-use Rattle.slice_core_machine.proofs.Delivered.{deliver_next_performs, delivery_performs}
-use Rattle.slice_core_machine.proofs.Handed.{hand_leads}
-use Rattle.slice_core_machine.proofs.Issued.{issue_leads}
-use Rattle.slice_core_machine.specs.Shows.{IsAccounted, Leads, Performs, hand_steps, issue_steps, next_of}
+use Rattle.slice_core_theory.proofs.Delivered.{deliver_next_performs, delivery_performs}
+use Rattle.slice_core_theory.proofs.MachineHanded.{hand_leads}
+use Rattle.slice_core_theory.proofs.Issued.{issue_leads}
+use Rattle.slice_core_theory.specs.Shows.{IsAccounted, Leads, Performs, hand_steps, issue_steps, next_of}
 use Rattle.slice_core_plan.specs.Calls.{AfterDeliverNext, AfterDelivery, AfterHand, AfterIssue, PartsView}
 use Rattle.slice_queues_message.specs.declared.channel.Class.{Class}
 use Rattle.slice_queues_message.specs.declared.channel.Pick.{Pick}

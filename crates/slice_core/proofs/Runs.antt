@@ -7,10 +7,10 @@ use Rattle.std.specs.Prelude.{All}
 use Rattle.slice_core.specs.Run.{AfterCall, AreSteps, AreStepsOfEach, IsOneRun, IsUnbroken, Runs}
 use Rattle.slice_core.specs.declared.run.Call.{Call}
 use Rattle.slice_core.specs.declared.run.CallAnswer.{CallAnswer}
-use Rattle.slice_core_machine.proofs.Kept.{leads-same, same-view}
-use Rattle.slice_core_machine.proofs.Runs.{leads-on}
-use Rattle.slice_core_machine.specs.SmallMachine.{Step}
-use Rattle.slice_core_machine.specs.Shows.{Leads}
+use Rattle.slice_core_theory.proofs.Kept.{leads-same, same-view}
+use Rattle.slice_core_theory.proofs.Runs.{leads-on}
+use Rattle.slice_core_theory.specs.SmallMachine.{Step}
+use Rattle.slice_core_theory.specs.Shows.{Leads}
 use Rattle.slice_core_plan.specs.Calls.{PartsView}
 
 -- No call is an empty run, and one call with its steps is a run.

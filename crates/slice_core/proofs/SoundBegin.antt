@@ -9,7 +9,7 @@ use Rattle.slice_core.proofs.AccountsBegin.{keeps-begins}
 use Rattle.slice_core.proofs.AccountsKept.{sound-from_keeps}
 use Rattle.slice_core.proofs.LinksBeginning.{links_initial}
 use Rattle.slice_core.specs.Sound.{IsSound}
-use Rattle.slice_core_coherence.proofs.BlocksBeginning.{legal_initial, reached_with_initial}
+use Rattle.slice_core_theory.proofs.BlocksBeginning.{legal_initial, reached_with_initial}
 
 -- A slice of the configured machine, in which nothing was asked for yet, is sound.
 pub sound-begins : (c : Config) (bound : Bound) (slice : SliceId) (p : PartsView) → IsNew c bound slice p

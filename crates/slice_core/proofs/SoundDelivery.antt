@@ -1,8 +1,8 @@
 -- The whole invariant holds after a delivery.
 use Rattle.slice_answer.specs.declared.answer.Delivered.{Delivered}
-use Rattle.slice_core_coherence.proofs.BlocksDeliveries.{faithful_deliver_next, faithful_delivery}
-use Rattle.slice_core_coherence.proofs.KeptByDeliveries.{deliver_next_keeps, delivery_keeps}
-use Rattle.slice_core_coherence.specs.Whole.{IsWhole}
+use Rattle.slice_core_theory.proofs.BlocksDeliveries.{faithful_deliver_next, faithful_delivery}
+use Rattle.slice_core_theory.proofs.KeptByDeliveries.{deliver_next_keeps, delivery_keeps}
+use Rattle.slice_core_theory.specs.Whole.{IsWhole}
 use Rattle.slice_core_plan.specs.Calls.{PartsView, AfterDeliverNext, AfterDelivery}
 use Rattle.slice_core.proofs.AccountsDelivery.{keeps-deliver_next, keeps-delivery}
 use Rattle.slice_core.proofs.AccountsKept.{sound-from_keeps}

@@ -3,9 +3,9 @@ use Rattle.std.proofs.Common.{◌<◌, length, Option, Some, None, sym, subst}
 use Rattle.address_map.specs.declared.address.CoreId.{CoreId}
 use Rattle.address_map.specs.declared.address.LineAddr.{LineAddr}
 use Rattle.slice_answer.specs.declared.answer.Evicted.{Evicted}
-use Rattle.slice_core_coherence.proofs.BlocksCalls.{faithful_evicted, faithful_handed}
-use Rattle.slice_core_coherence.proofs.KeptByCalls.{evicted_keeps, handed_keeps}
-use Rattle.slice_core_coherence.specs.Whole.{IsWhole}
+use Rattle.slice_core_theory.proofs.BlocksCalls.{faithful_evicted, faithful_handed}
+use Rattle.slice_core_theory.proofs.KeptByCalls.{evicted_keeps, handed_keeps}
+use Rattle.slice_core_theory.specs.Whole.{IsWhole}
 use Rattle.slice_core_plan.specs.Calls.{PartsView, AfterEvict, AfterHand}
 use Rattle.slice_log.specs.declared.entry.Numbered.{Numbered}
 use Rattle.slice_core.proofs.AccountsEvict.{keeps-evict}

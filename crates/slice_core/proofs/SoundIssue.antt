@@ -5,9 +5,9 @@ use Rattle.address_map.specs.declared.address.CoreId.{CoreId}
 use Rattle.address_map.specs.declared.request.Request.{Request}
 use Rattle.slice_answer.specs.declared.answer.Issue.{Issue}
 use Rattle.slice_answer.specs.declared.answer.Refused.{Refused}
-use Rattle.slice_core_coherence.proofs.BlocksCalls.{faithful_issue}
-use Rattle.slice_core_coherence.proofs.KeptByCalls.{issue_keeps}
-use Rattle.slice_core_coherence.specs.Whole.{IsWhole}
+use Rattle.slice_core_theory.proofs.BlocksCalls.{faithful_issue}
+use Rattle.slice_core_theory.proofs.KeptByCalls.{issue_keeps}
+use Rattle.slice_core_theory.specs.Whole.{IsWhole}
 use Rattle.slice_core_plan.specs.Calls.{PartsView, AfterIssue}
 use Rattle.slice_core.proofs.AccountsIssue.{keeps-issue}
 use Rattle.slice_core.proofs.AccountsKept.{keeps-from_sound, sound-from_keeps}

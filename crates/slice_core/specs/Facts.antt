@@ -16,20 +16,20 @@ use Rattle.slice_answer.specs.declared.answer.Issue.{Issue}
 use Rattle.slice_answer.specs.declared.answer.Issue.TheVariants as issues
 use Rattle.slice_answer.specs.declared.answer.Refused.{Refused}
 use Rattle.slice_answer.specs.declared.answer.Stall.TheVariants as stalls
-use Rattle.slice_core_coherence.specs.Blocks.{AreReachedWith}
-use Rattle.slice_core_coherence.specs.Coherent.{HasBoundedChannels, HasOneWriter, NothingIsBroken}
-use Rattle.slice_core_coherence.specs.Newest.{HasNewest}
-use Rattle.slice_core_coherence.specs.Whole.{IsAddressed, IsWhole}
+use Rattle.slice_core_theory.specs.Blocks.{AreReachedWith}
+use Rattle.slice_core_theory.specs.Coherent.{HasBoundedChannels, HasOneWriter, NothingIsBroken}
+use Rattle.slice_core_theory.specs.Newest.{HasNewest}
+use Rattle.slice_core_theory.specs.Whole.{IsAddressed, IsWhole}
 use Rattle.slice_log.specs.Log.{initially, value, IsLegal, IsOrdered}
 use Rattle.slice_log.specs.declared.entry.Entry.{Entry}
-use Rattle.slice_core_machine.specs.Shows.{IsAccounted}
+use Rattle.slice_core_theory.specs.Shows.{IsAccounted}
 use Rattle.slice_core_cache.specs.CoreCache.{copy_of, state_of, tag_at}
 use Rattle.slice_core_cache.specs.Steps.{victim_for}
 use Rattle.slice_core_cache.specs.declared.access.AccessKind.TheVariants as access_kinds
 use Rattle.slice_core_cache.specs.declared.access.Placement.TheVariants as placements
 use Rattle.slice_core_cache.specs.declared.copy.CacheCopy.{CacheCopy}
 use Rattle.slice_core_cache.specs.declared.tags.TagState.TheVariants as tag_states
-use Rattle.slice_core_standing.specs.Standing.{is_open, standings}
+use Rattle.slice_core_theory.specs.Standing.{is_open, standings}
 use Rattle.slice_core_plan.specs.Calls.{PartsView}
 use Rattle.slice_core_plan.specs.View.{View, channels_at, entry_at, cache_at, word_now}
 use Rattle.slice_core_plan.specs.declared.decision.Decision.{Decision}

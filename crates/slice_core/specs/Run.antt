@@ -5,8 +5,8 @@ use Rattle.slice_core.specs.declared.run.Call.{Call}
 use Rattle.slice_core.specs.declared.run.Call.TheVariants as slice_calls
 use Rattle.slice_core.specs.declared.run.CallAnswer.{CallAnswer}
 use Rattle.slice_core.specs.declared.run.CallAnswer.TheVariants as call_answers
-use Rattle.slice_core_machine.specs.SmallMachine.{Step, perform}
-use Rattle.slice_core_machine.specs.Shows.{Leads, Performs, hand_steps, issue_steps, next_of}
+use Rattle.slice_core_theory.specs.SmallMachine.{Step, perform}
+use Rattle.slice_core_theory.specs.Shows.{Leads, Performs, hand_steps, issue_steps, next_of}
 use Rattle.slice_core_plan.specs.Calls.{PartsView, AfterDeliverNext, AfterDelivery, AfterEvict, AfterHand, AfterIssue}
 use Rattle.slice_core_plan.specs.View.{View}
 

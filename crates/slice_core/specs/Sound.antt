@@ -11,9 +11,9 @@ use Rattle.mshr_file.specs.Miss.{has_miss}
 use Rattle.slice_log.specs.Log.{IsOrdered}
 use Rattle.slice_core_cache.specs.Kept.{IsKept}
 use Rattle.slice_core_cache.specs.CoreCache.{state_of}
-use Rattle.slice_core_standing.specs.Standing.{HasNoEntry, IsAccount, target_count}
+use Rattle.slice_core_theory.specs.Standing.{HasNoEntry, IsAccount, target_count}
 use Rattle.slice_core.specs.Facts.{CountsAccepted}
-use Rattle.slice_core_coherence.specs.Newest.{IsFaithful}
+use Rattle.slice_core_theory.specs.Newest.{IsFaithful}
 use Rattle.slice_core_plan.specs.Calls.{PartsView}
 use Rattle.slice_core_plan.specs.View.{View, channels_at, cache_at, IsOwned, IsShaped}
 use Rattle.slice_queues.specs.Line.{core_at}

@@ -6,7 +6,7 @@
 //! line stand in the log in the order in which it asked for them; each copy that waits has its one miss register; each
 //! tag names what was asked for under it; and a core whose miss file is bounded by tags alone waits for no miss
 //! register. `specs/Sound.antt` is the invariant that shows it. To somebody who sees only requests and replies each
-//! call is, by its clause `machine`, some steps of the small machine of `slice_core_machine`. [`SliceState::run`] makes
+//! call is, by its clause `machine`, some steps of the small machine of `slice_core_theory`. [`SliceState::run`] makes
 //! a list of calls; by `specs/Run.antt` it answers and leaves what its calls do one after another, and is one run of
 //! that machine.
 //!

@@ -7,8 +7,8 @@ ghost use Rattle.slice_core.specs.Facts.{IsNotBroken, IsNotBrokenNext, IsSameSli
 ghost use Rattle.slice_core.specs.Facts.{ShowsLast, ShowsLine, ShowsWord, front_at};
 ghost use Rattle.slice_core.specs.Run.{AfterCall, HasCore, HasCores, IsOneRun, IsUnbroken, Runs};
 ghost use Rattle.slice_core_cache.specs.CoreCache.{tag_at};
-ghost use Rattle.slice_core_machine.specs.SmallMachine.{IsSame, new_small_machine};
-ghost use Rattle.slice_core_machine.specs.Shows.{Leads, Performs, hand_steps, issue_steps, next_of, small_machine_of};
+ghost use Rattle.slice_core_theory.specs.SmallMachine.{IsSame, new_small_machine};
+ghost use Rattle.slice_core_theory.specs.Shows.{Leads, Performs, hand_steps, issue_steps, next_of, small_machine_of};
 ghost use Rattle.slice_core_plan.specs.Decision.{decision_of};
 ghost use Rattle.slice_core_plan.specs.Calls.{PartsView, AfterDeliverNext, AfterDelivery, AfterEvict, AfterHand};
 ghost use Rattle.slice_core_plan.specs.Calls.{AfterIssue, IsNew, IsNextPick, next_pick};

@@ -1,7 +1,7 @@
 use Rattle.std.proofs.Common.{[], ◌∷◌, subst, sym}
 use Rattle.receipt_ledger.proofs.Last.{done-number, last-done}
-use Rattle.slice_core_machine.specs.SmallMachine.{accept, hand, perform}
-use Rattle.slice_core_machine.specs.Shows.{Leads, next_of}
+use Rattle.slice_core_theory.specs.SmallMachine.{accept, hand, perform}
+use Rattle.slice_core_theory.specs.Shows.{Leads, next_of}
 use Rattle.receipt_ledger.proofs.book.Book.accept.Goals as goal
 
 pub returns-in-Ok-Done-clause-port : goal.returns-in-Ok-Done-clause-port

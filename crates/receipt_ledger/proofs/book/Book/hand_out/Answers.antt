@@ -5,8 +5,8 @@ use Rattle.receipt_ledger.specs.Answers.{IsGenuine, IsLastOf, receipt_of}
 use Rattle.receipt_ledger.specs.Booked.{IsTied}
 use Rattle.receipt_ledger.specs.Port.{IsEntryOf, PortView}
 use Rattle.receipt_ledger.specs.declared.receipt.Receipt.{Receipt}
-use Rattle.slice_core_machine.specs.SmallMachine.{hand}
-use Rattle.slice_core_machine.specs.Shows.{Leads}
+use Rattle.slice_core_theory.specs.SmallMachine.{hand}
+use Rattle.slice_core_theory.specs.Shows.{Leads}
 use Rattle.receipt_ledger.proofs.book.Book.hand_out.Goals as goal
 
 pub give-requires-clause-own : goal.give-requires-clause-own

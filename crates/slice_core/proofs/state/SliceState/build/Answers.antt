@@ -1,7 +1,7 @@
 use Rattle.slice_core.proofs.Coherent.{holds}
 use Rattle.slice_core.proofs.SoundBegin.{sound-begins}
 use Rattle.slice_core.proofs.state.SliceState.build.Goals as goal
-use Rattle.slice_core_machine.proofs.Beginning.{new_shows}
+use Rattle.slice_core_theory.proofs.MachineBeginning.{new_shows}
 
 pub invariant_of-result : goal.invariant_of-result
 invariant_of-result g c =

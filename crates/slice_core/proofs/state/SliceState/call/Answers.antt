@@ -4,7 +4,7 @@ use Rattle.slice_core.proofs.state.SliceState.call.Goals as goal
 use Rattle.slice_core.specs.Run.{IsOneRun}
 use Rattle.slice_core.specs.declared.run.Call.TheVariants as slice_calls
 use Rattle.slice_core.specs.declared.run.CallAnswer.TheVariants as call_answers
-use Rattle.slice_core_machine.specs.SmallMachine.{perform}
+use Rattle.slice_core_theory.specs.SmallMachine.{perform}
 
 pub returns-in-Deliver-clause-machine : goal.returns-in-Deliver-clause-machine
 returns-in-Deliver-clause-machine g c =

@@ -8,7 +8,7 @@ use Rattle.slice_core.proofs.state.SliceState.deliver.Given.{Over}
 use Rattle.slice_core.proofs.state.SliceState.deliver.Goals as goal
 use Rattle.slice_core.proofs.SameSlice.{same-deliver}
 use Rattle.slice_core.proofs.Machine.{machine-deliver}
-use Rattle.slice_core_machine.specs.Shows.{Performs}
+use Rattle.slice_core_theory.specs.Shows.{Performs}
 use Rattle.slice_core_plan.specs.Calls.{PartsView}
 
 -- the slice that the step leaves

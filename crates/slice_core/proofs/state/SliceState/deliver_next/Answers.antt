@@ -8,7 +8,7 @@ use Rattle.slice_core.proofs.state.SliceState.deliver_next.Given.{Over}
 use Rattle.slice_core.proofs.state.SliceState.deliver_next.Goals as goal
 use Rattle.slice_core.proofs.SameSlice.{same-next}
 use Rattle.slice_core.proofs.Machine.{machine-next}
-use Rattle.slice_core_machine.specs.Shows.{Performs}
+use Rattle.slice_core_theory.specs.Shows.{Performs}
 use Rattle.slice_core_plan.specs.Calls.{PartsView}
 use Rattle.slice_core_plan.specs.Turn.{ServesInTurn}
 

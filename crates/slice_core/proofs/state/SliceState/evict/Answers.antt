@@ -7,8 +7,8 @@ use Rattle.slice_core.proofs.SameSlice.{same-evict}
 use Rattle.slice_core.proofs.SoundEvict.{sound-evict}
 use Rattle.slice_core.proofs.state.SliceState.evict.Given.{Over}
 use Rattle.slice_core.proofs.state.SliceState.evict.Goals as goal
-use Rattle.slice_core_machine.proofs.Evicted.{evict_leads}
-use Rattle.slice_core_machine.specs.Shows.{Leads}
+use Rattle.slice_core_theory.proofs.Evicted.{evict_leads}
+use Rattle.slice_core_theory.specs.Shows.{Leads}
 
 -- the core is one of the slice's
 known : (g : Over) (c : goal.After-evict g) → c.args.core.0 < length c.self.inside.parts.view.caches

@@ -9,7 +9,7 @@ use Rattle.slice_core.proofs.state.SliceState.hand.Given.{Over}
 use Rattle.slice_core.proofs.state.SliceState.hand.Goals as goal
 use Rattle.slice_core.proofs.SameSlice.{same-hand}
 use Rattle.slice_core.proofs.Machine.{machine-hand}
-use Rattle.slice_core_machine.specs.Shows.{Leads, hand_steps}
+use Rattle.slice_core_theory.specs.Shows.{Leads, hand_steps}
 
 -- the core is one of the slice's
 known : (g : Over) (c : goal.After-hand g) → c.args.core.0 < length c.self.inside.parts.view.caches

@@ -11,7 +11,7 @@ use Rattle.slice_core.proofs.state.SliceState.issue.Goals as goal
 use Rattle.slice_core.proofs.SameSlice.{same-issue}
 use Rattle.slice_core.proofs.Machine.{machine-issue}
 use Rattle.slice_core.proofs.Victim.{leaves_victim}
-use Rattle.slice_core_machine.specs.Shows.{Leads, issue_steps, next_of}
+use Rattle.slice_core_theory.specs.Shows.{Leads, issue_steps, next_of}
 
 -- the core is one of the slice's
 known : (g : Over) (c : goal.After-issue g) → c.args.core.0 < length c.self.inside.parts.view.caches

@@ -1,5 +1,0 @@
-use Rattle.slice_core_coherence.proofs.Consequences.{one_writer}
-use Rattle.slice_core_coherence.proofs.one_core_writes_or_many_read.Goals as goal
-
-pub returns : goal.returns
-returns c = one_writer

@@ -1,5 +1,0 @@
-use Rattle.slice_core_machine.proofs.Beginning.{new_shows}
-use Rattle.slice_core_machine.proofs.new_slice_shows_nothing.Goals as goal
-
-pub returns : goal.returns
-returns c = λ config bound slice p is. new_shows config bound slice p is

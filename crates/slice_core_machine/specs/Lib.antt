@@ -1,2 +1,0 @@
-pub mod SmallMachine
-pub mod Shows

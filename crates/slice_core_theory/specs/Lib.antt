@@ -1,0 +1,9 @@
+pub mod Standing
+pub mod Laws
+pub mod Stands
+pub mod Whole
+pub mod Coherent
+pub mod Blocks
+pub mod Newest
+pub mod SmallMachine
+pub mod Shows

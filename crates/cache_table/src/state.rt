@@ -33,24 +33,7 @@ pub enum CopyState {
 }
 
 impl CopyState {
-    ghost use Rattle.cache_table.specs.CopyState.{is_leaving, is_readable, is_waiting, is_writer};
-
-    /// Whether a load may read the copy.
-    pub const fn is_readable(self) -> bool
-        ensures { result ≡ is_readable self }
-    {
-        matches!(
-            self,
-            CopyState::S | CopyState::SM_AD | CopyState::SM_A | CopyState::M | CopyState::E
-        )
-    }
-
-    /// Whether the copy may be written without asking.
-    pub const fn is_writer(self) -> bool
-        ensures { result ≡ is_writer self }
-    {
-        matches!(self, CopyState::M | CopyState::E)
-    }
+    ghost use Rattle.cache_table.specs.CopyState.{is_leaving, is_waiting};
 
     /// Whether a miss is outstanding, so that the line has a miss register.
     pub const fn is_waiting(self) -> bool

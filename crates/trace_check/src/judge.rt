@@ -1,7 +1,6 @@
-ghost use Rattle.std.specs.Prelude.{◌≡◌, ◌<◌, ℕ, List, [], ◌∷◌, ◌++◌, length, All, OnOk, IfOk, MatchOption};
+ghost use Rattle.std.specs.Prelude.{◌≡◌, ◌<◌, ℕ, List, [], ◌∷◌, ◌++◌, length, All, OnOk, MatchOption};
 ghost use Rattle.std.specs.Prelude.{slice_index, IsTrue, ◌↔◌, ◌/◌};
 ghost use Rattle.address_map.specs.declared.address.WordAddr.{WordAddr};
-ghost use Rattle.address_map.specs.Words.{IsAscendingBy};
 ghost use Rattle.slice_log.specs.Log.{initially};
 ghost use Rattle.slice_log.specs.declared.entry.Entry.{Entry};
 ghost use Rattle.trace_check.specs.declared.verdict.Verdict.{Verdict};
@@ -110,30 +109,6 @@ fn line_of(entry: &Entry) -> usize
     ensures { result ≡ entry.now.word.0 / 8 }
 {
     entry.word.line().0 as usize
-}
-
-/// Judges a log, in which words begin with these values.
-pub fn judge_log(
-    alloc: Global,
-    init: &[(WordAddr, u64)],
-    entries: &[Entry],
-) -> Result<Verdict, AllocError>
-    requires ascending { IsAscendingBy (λ pair. pair.0.0) init.now }
-    requires words { All (λ pair. pair.0.0 < MOST_WORDS) init.now }
-    requires entries { All IsNameable entries.now }
-    ensures { IfOk result (IsVerdict (initially init.now) entries.now) }
-{
-    let mut judge = Judge::new(alloc);
-    for (word, value) in init {
-        judge.begin(*word, *value)?;
-    }
-    for (number, entry) in entries.iter().enumerate() {
-        if let Some(reason) = judge.fault(number, entry) {
-            return Ok(Verdict::Illegal(number, reason));
-        }
-        judge.take(entry)?;
-    }
-    Ok(Verdict::Legal(entries.len()))
 }
 
 /// A log has one verdict alone, so one that is legal and ordered is judged legal, and no other is.

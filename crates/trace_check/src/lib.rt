@@ -6,8 +6,7 @@
 //!   the fault names is the first with which it can be none (`IsFaultAt`), and the fault is what is wrong with it there
 //!   (`IsFaultOfTrace`); want of memory is a fault of its own (specs/Trace.antt). [`one_judgement`] says that no text
 //!   has two verdicts, and [`none_by_since`] that where entries don't say how long the log was, none is judged by it.
-//! - [`judge_log`] judges a log that is at hand (specs/Verdict.antt), and [`one_verdict`] says that no log has two
-//!   verdicts.
+//! - [`one_verdict`] says that no log has two verdicts (specs/Verdict.antt).
 //! - [`TraceLine`] is a line of a trace. At Ok of [`TraceLine::parse`] the words write that line, and it names only
 //!   what a trace of this version can; they are refused only where they write no such line, and the fault is what is
 //!   wrong with them (`IsFaultOfLine` in specs/TraceLine.antt).
@@ -19,7 +18,7 @@
 #![tactic(auto)]
 
 pub use check::{check_trace, none_by_since, one_judgement};
-pub use judge::{Judge, MOST_CORES, MOST_WORDS, judge_log, one_verdict};
+pub use judge::{Judge, MOST_CORES, MOST_WORDS, one_verdict};
 pub use trace_line::{MOST_TAGS, TraceLine, Version};
 pub use verdict::{Reason, Verdict};
 

@@ -14,12 +14,13 @@ module _ (table state event outcome times : List ℕ) where
     is = is.is;
     written = (
       ap (λ (ns : List (List ℕ)). get_or ns 0 []) is.named,
-      ap (λ (ns : List (List ℕ)). get_or ns 1 []) is.named,
-      ap (λ (ns : List (List ℕ)). get_or ns 2 []) is.named,
-      ap (λ (ns : List (List ℕ)). get_or ns 3 []) is.named,
-      spelt,
-      refl,
-      tt,
+      (
+        ap (λ (ns : List (List ℕ)). get_or ns 1 []) is.named,
+        (
+          ap (λ (ns : List (List ℕ)). get_or ns 2 []) is.named,
+          (ap (λ (ns : List (List ℕ)). get_or ns 3 []) is.named, (spelt, (refl, tt))),
+        ),
+      ),
     );
   }
 

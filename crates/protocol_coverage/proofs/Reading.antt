@@ -18,7 +18,7 @@ module _ (table state event outcome times : List ℕ) where
         ap (λ (ns : List (List ℕ)). get_or ns 1 []) is.named,
         (
           ap (λ (ns : List (List ℕ)). get_or ns 2 []) is.named,
-          (ap (λ (ns : List (List ℕ)). get_or ns 3 []) is.named, (spelt, (refl, tt))),
+          (ap (λ (ns : List (List ℕ)). get_or ns 3 []) is.named, (spelt, refl, tt)),
         ),
       ),
     );

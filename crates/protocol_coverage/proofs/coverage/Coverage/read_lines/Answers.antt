@@ -10,4 +10,4 @@ returns-in-Err-clause-refused c =
     let same = c.in-Err.ensures.same in
     c.lines.invariant.up_to _ _
     (rw (c.read.ensures.read c.lines-test.true)
-    (inl (c.at.ensures.number, (rw c.at.ensures.fault wrong, same))))
+    (inl (c.at.ensures.number, rw c.at.ensures.fault wrong, same)))

@@ -1,8 +1,9 @@
 -- Lists that are made or gone through one by one.
-use Rattle.std.proofs.Common.{◌≡◌, ◌∙◌, ℕ, ◌+◌, ◌<◌, ◌≤◌, List, [], ◌∷◌, ◌++◌, append-nil, append_assoc, drop, get_or, length}
-use Rattle.std.proofs.Common.{map, sym}
+use Rattle.std.proofs.Common.{◌≡◌, ◌∙◌, ℕ, zero, suc, ◌+◌, ◌<◌, ◌≤◌, List, [], ◌∷◌, ◌++◌, ap, append-nil, append_assoc, arith, drop, get_or, inl, inr, length}
+use Rattle.std.proofs.Common.{Some, map, subst, sym}
+use Rattle.std.proofs.lemmas.Bool.{cases_lt}
 use Rattle.std.proofs.lemmas.List.{at_drop_all, at_drop_more}
-use Rattle.std.specs.Prelude.{Option}
+use Rattle.std.specs.Prelude.{Option, slice_get}
 use Rattle.protocol_coverage.specs.Counts.{counted, counted_all}
 
 -- of a list that is made of another one
@@ -24,3 +25,17 @@ module _ (cells : List ℕ) (i : ℕ) (now all : List (Option ℕ)) where
 
   pub counted_end : length cells ≤ i → counted_all now (drop i cells) ≡ all → now ≡ all
   counted_end end so = sym (at_drop_all (counted_all now) cells i end) ∙ so
+
+-- ---- of what is looked for
+
+pub found_at : {X : Type 0} (xs : List X) (k : ℕ) (x d : X) → k < length xs → get_or xs k d ≡ x → slice_get xs k ≡ Some x
+found_at [] k x d within is = absurd (omega arith)
+found_at (y ∷ ys) zero x d within is = ap Some is
+found_at (y ∷ ys) (suc k) x d within is = found_at ys k x d (omega arith) is
+
+-- where it isn't among the first, nor the next
+pub none_up_to : (P : ℕ → Type 0) (n : ℕ) → ((k : ℕ) → k < n → ¬ P k) → ¬ P n → (k : ℕ) → k < n + 1 → ¬ P k
+none_up_to P n before here k within = elim (cases_lt k n) [
+  | inl under ↦ before k under
+  | inr past ↦ let same : k ≡ n = omega arith in λ p. here (subst P same p)
+]

@@ -136,7 +136,7 @@ def without_exports(code):
 
 
 def texts():
-    """Returns the examples by kind and name. A trace is no script."""
+    """Returns the examples by kind and name. A trace or a history is no script."""
     found = {}
     for kind, folder in TEXTS.items():
         names = sorted(it for it in os.listdir(f"{kit.ROOT}/{folder}") if it.endswith(".txt"))
@@ -144,7 +144,7 @@ def texts():
         for name in names:
             with open(f"{kit.ROOT}/{folder}/{name}", encoding="utf-8") as it:
                 text = it.read()
-            if not re.search(r"^lockup-trace", text, re.M):
+            if not re.search(r"^lockup-(trace|history)", text, re.M):
                 found[kind][name.removesuffix(".txt")] = text
     return found
 

@@ -29,7 +29,8 @@ def examples() -> list[str]:
 
 
 def is_trace(text: str) -> bool:
-    return any(line.startswith("lockup-trace") for line in text.split("\n"))
+    """Returns whether a text is a trace or a history, and no script."""
+    return any(line.startswith(("lockup-trace", "lockup-history")) for line in text.split("\n"))
 
 
 def example(name: str) -> str:

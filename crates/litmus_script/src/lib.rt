@@ -4,7 +4,7 @@
 //!   and keeps nothing of it: a call takes memory for the machine, for the log's growth and for a report's text alone.
 //! - [`Script`] is a script whose configuration was read. Its [`Commands`] are played in order by a [`Player`]: the
 //!   [`Machine`] itself, or another on it, as the [`Style`] has it in which the script is run ([`run_in_style`]).
-//! - [`TextWriter`] is where answers go, and the functions beside it write the text of each.
+//! - [`TextWriter`] is where answers go, and the functions beside it write the text of each. [`write_trace`] writes a log.
 //! - [`issue`] is an access of one slice, with what became of it as it is printed.
 //! - [`pump_slices`] has a [`Deliverer`], which the [`Machine`] is, deliver whatever waits, round and round over the
 //!   slices.
@@ -21,6 +21,7 @@ pub use machine::Machine;
 pub use player::Player;
 pub use pump::pump_slices;
 pub use script::{Commands, Plain, Script, Style, run_in_style, run_script};
+pub use trace::write_trace;
 
 mod answers;
 mod calls;

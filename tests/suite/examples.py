@@ -1,12 +1,14 @@
 """Runs each example whose answers stand beside it: examples/NAME.txt prints examples/NAME.out, byte
 for byte, and no error. With --echo it prints the same, and each command before its answer; with
 --beside the rows of examples/beside, which shows all its answers. An example without answers is
-named by a case of tests/cases, which says what is wanted. Each stands in docs/EXAMPLES.md."""
+named by a case of tests/cases, which says what is wanted. Each stands in docs/EXAMPLES.md. Together they meet each cell of
+both tables that can be met."""
+import json
 import re
 
 from harness import ROOT, each, lockup, read, run, same, want
 from harness.cases import all_cases
-from harness.scripts import COMMANDS, FIELDS
+from harness.scripts import COMMANDS, FIELDS, is_trace
 
 FOLDER = ROOT / "examples"
 COMMAND = re.compile(rf"[ \t]*({'|'.join(COMMANDS)})([ \t]|$)")
@@ -63,3 +65,32 @@ def test_beside(name: str) -> None:
     same("the answers of examples/beside", wanted, "".join(row for row in shown if row.strip("\n")))
     ran = lockup("script", "--beside", script)
     same("script --beside", "".join(row for row in rows if not QUIET.match(row.rstrip("\n"))), ran.out + ran.err)
+
+
+# what a step meets, in its explained answer, and the words there for what the tables have in one
+CASE = re.compile(r"   (core|dir) \d+ \((\w+), ([\w-]+(?: home)?)[^:]*\): (?:(?:hit; |primary miss; )?to (\w+)|(.*))")
+SAID = {"secondary miss; joins": "joins", "no copy": "not held"}
+
+
+def met_by(script: str) -> set[tuple[str, str, str, str]]:
+    """The cells that a script's steps meet: a table, a state, what comes to it, and the next state or what is done."""
+    found = set()
+    for case in CASE.finditer(lockup("script", "--explain", "-", text=script).out):
+        table, state, event, to, words = case.groups()
+        waits = {"eviction": "busy", "load": "stalls", "write": "stalls"}.get(event, "blocked")
+        found.add(({"core": "cache", "dir": "directory"}[table], state, event, to or SAID.get(words, waits)))
+    return found
+
+
+def cells() -> set[tuple[str, str, str, str]]:
+    """The cells of both tables, with the exclusive state and without, as far as the next state tells them apart."""
+    values = [json.loads(line) for table in ("cache", "directory") for option in ([], ["--exclusive"])
+              for line in lockup("table", table, "--json", *option).out.splitlines()]
+    return {(it["table"], it["state"], it["event"], it["next"]["state"] if it["row"] == "go" else it["row"])
+            for it in values if it["row"] != "never"}
+
+
+def test_each_cell_is_met() -> None:
+    scripts = [read(FOLDER / f"{name}.txt") for name in with_answers()]
+    met = set().union(*(met_by(script) for script in scripts if not is_trace(script)))
+    same("cells that no example meets", [], sorted(cells() - met))

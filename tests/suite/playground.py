@@ -846,10 +846,10 @@ def test_a_site() -> None:
         links = re.findall(r'href="([^"]*)"', read(f"{room}/examples.html"))
         for link in links:
             want(Path(room, link.split("#")[0]).is_file(), f"there is no {link}")
-        scripts = [it for it in links if "#" in it]
+        scripts = dict(re.findall(r'href="examples/(\w+)\.html">[^<]*</a>, <a href="([^"]*)"', read(f"{room}/examples.html")))
         want(len(scripts) > 30, f"there are {len(scripts)} scripts")
         with InChromium() as it:
-            it.open(f"file://{room}/{scripts[0]}")
+            it.open(f"file://{room}/{scripts['acknowledgements_that_cross']}")
             it.wait("document.body && document.body.dataset.step && edits.lines.length > 3")
             it.settle()
             same("the example", read(ROOT / "examples/acknowledgements_that_cross.txt"), it.get("edits.text"))

@@ -1,8 +1,7 @@
 """lockup: lockup-free private caches with explicitly addressed miss registers, kept coherent by a directory.
 
-`Machine` is the proved machine, call by call; `Judge` judges the trace of any cache, entry by entry, and
-`Histories` what its cores asked for and were answered, in no known order. Each call does what
-the same line of a script does (docs/TEXTS.md); docs/LIBRARY.md says what is proved.
+`Machine` is the proved machine, call by call. `Judge` judges the trace of any cache, entry by entry, and `Histories` what
+its cores asked for and were answered, in no known order. Each call does what the same line of a script does (docs/TEXTS.md); docs/LIBRARY.md says what is proved.
 """
 from .errors import InUse, LockupError, NoMachine, NoMemory, NotAllowed, OutOfRange
 from .histories import Histories

@@ -1,4 +1,6 @@
 """An exception for each code that a call can return."""
+from typing import Dict, Tuple, Type
+
 FIELDS = ("cores", "slices", "lines", "sets", "ways", "mshrs", "targets", "writebacks", "init", "counters")
 
 
@@ -8,6 +10,9 @@ class LockupError(Exception):
     def __init__(self, code: int, said: str) -> None:
         super().__init__(said)
         self.code = code
+
+    def __reduce__(self) -> "Tuple[Type[LockupError], Tuple[int, str]]":
+        return type(self), (self.code, str(self))
 
 
 class NoMachine(LockupError):
@@ -34,7 +39,7 @@ class NotAllowed(LockupError, ValueError):
         self.field = FIELDS[code - 101]
 
 
-_KINDS = {
+_KINDS: Dict[int, Tuple[Type[LockupError], str]] = {
     1: (NoMachine, "there is no machine: it was closed"),
     2: (OutOfRange, "out of range"),
     3: (NoMemory, "no memory"),

@@ -1,12 +1,11 @@
 """Judges histories: what the cores of any cache asked for and were answered, in no known order of several cores."""
 import ctypes
 import struct
-from ctypes import c_uint64, c_void_p
-from types import TracebackType
-from typing import Mapping, Optional, Type
+from ctypes import c_uint64
+from typing import Mapping, Optional, Tuple
 
-from .errors import error_of
-from .library import WORDS, library
+from .handle import Owner
+from .library import number, word as word_of
 from .names import Coherence, Why
 from .values import Judgement, Reason
 
@@ -17,7 +16,7 @@ _unpack = struct.Struct("=4Q").unpack_from
 ALWAYS = (0, (1 << 64) - 1)
 
 
-class Histories:
+class Histories(Owner):
     """The histories of words, which begin as `init` says, and as 0 elsewhere.
 
     >>> with Histories() as histories:
@@ -30,56 +29,39 @@ class Histories:
     Reason(why=<Why.INTERVAL: 2>, first=0, last=2, other=2)
     """
 
+    _free = "judge_free"
+
     def __init__(self, init: Optional[Mapping[int, int]] = None) -> None:
-        self._handle = c_void_p()
-        self._at = ctypes.byref(self._handle)
-        self._library = library()
+        self._begin()
         self._buffer = (c_uint64 * 8)()
         self._out = ctypes.byref(self._buffer)
         self._call("judge_new")
-        for word, value in (init or {}).items():
-            self.begin(word, value)
-
-    def _call(self, name: str, *words: object) -> None:
-        code = self._library.bare[name](self._at, *words)
-        if code:
-            raise error_of(code)
-
-    def close(self) -> None:
-        """Ends the histories."""
-        if self._handle:
-            self._library.judge_free(self._at)
-
-    def __enter__(self) -> "Histories":
-        return self
-
-    def __exit__(self, kind: Optional[Type[BaseException]], error: Optional[BaseException],
-                 trace: Optional[TracebackType]) -> None:
-        self.close()
-
-    def __del__(self) -> None:
-        if getattr(self, "_handle", None):
-            self.close()
+        for named, value in (init or {}).items():
+            self.begin(named, value)
 
     def begin(self, word: int, value: int) -> None:
         """Gives a word the value that it begins with, once."""
-        self._call("judge_begin", WORDS[word], WORDS[value])
+        self._call("judge_begin", word_of(word), word_of(value))
 
     def add(self, core: int, op: int, word: int, operand: int = 0, replacement: int = 0, reply: int = 0,
-            during: "tuple[int, int]" = ALWAYS) -> None:
+            during: Tuple[int, int] = ALWAYS) -> None:
         """Takes one more access, a core's of a word in its own order. `during` is when it was asked for and when it was
         answered, by a counter that all cores share. Of a store `reply` means nothing."""
-        _pack(self._buffer, 0, core, op, word, operand, replacement, reply, *during)
+        numbers = core, op, word, operand, replacement, reply, *during
+        try:
+            _pack(self._buffer, 0, *numbers)
+        except struct.error:
+            _pack(self._buffer, 0, *map(number, numbers))
         self._call("judge_access", self._out)
 
     def judge(self, limit: int = 1_000_000) -> Judgement:
         """Judges the accesses so far. Up to `limit` steps are taken to try orders of a word whose values repeat."""
-        self._call("judge_verdict", WORDS[limit], self._out)
+        self._call("judge_verdict", word_of(limit), self._out)
         verdict, word, count, _ = _unpack(self._buffer)
         reasons = tuple(self._reason(nth) for nth in range(count))
         return Judgement(Coherence(verdict), None if verdict == Coherence.COHERENT else word, reasons)
 
     def _reason(self, nth: int) -> Reason:
-        self._call("judge_reason", WORDS[nth], self._out)
+        self._call("judge_reason", word_of(nth), self._out)
         why, *accesses = _unpack(self._buffer)
         return Reason(Why(why), *accesses)

@@ -2,11 +2,16 @@
 import ctypes
 import os
 from ctypes import POINTER, c_size_t, c_uint32, c_uint64, c_void_p
+from operator import index
 from pathlib import Path
-from typing import Callable, Dict, Iterator, Optional
+from typing import Callable, Dict, Iterator, List, Optional, Sequence, SupportsIndex
+
+from .errors import OutOfRange
 
 NAME = "liblockup.so"
 WORD = c_uint64
+# how many numbers are made once
+SMALL = 1024
 # a handle is a pointer, and passed by a pointer to it
 HANDLE = POINTER(c_void_p)
 # an output is passed as the address of a buffer that is made once
@@ -77,21 +82,34 @@ PROTOTYPES = {
 }
 
 
-def number(value: int) -> int:
-    """Returns a number that the library can be given."""
-    if not 0 <= value < 1 << 64:
-        raise OverflowError(f"a number is from 0 to 2^64 - 1, and not {value}")
-    return value
+def number(value: SupportsIndex) -> int:
+    """Returns a number that the library can be given. One that is no integer is a TypeError."""
+    found = int(index(value))
+    if not 0 <= found < 1 << 64:
+        raise OutOfRange(2, f"a number is from 0 to 2^64 - 1, and not {found}")
+    return found
 
 
-class Words(Dict[int, object]):
-    """Numbers as ctypes passes them, the small ones made once: to make one costs more than to find it."""
+# Numbers as ctypes passes them, the small ones made once: to make one costs more than to find it. Whoever looks one up has
+# seen that it isn't below 0.
+WORDS: List[object] = [*map(WORD.from_param, range(SMALL))]
+# what looking one up raises where it isn't one of the small ones, or is no number
+NOT_SMALL = (IndexError, TypeError)
 
-    def __missing__(self, value: int) -> object:
-        return WORD.from_param(number(value))
+
+def word(value: SupportsIndex) -> object:
+    """Returns a number as ctypes passes it."""
+    found = number(value)
+    return WORDS[found] if found < SMALL else WORD.from_param(found)
 
 
-WORDS = Words((value, WORD.from_param(value)) for value in range(1024))
+def words(values: Sequence[int]) -> List[object]:
+    """Returns numbers as ctypes passes them."""
+    try:
+        return [WORDS[it] if it >= 0 else word(it) for it in values]
+    except NOT_SMALL:
+        pass
+    return [word(it) for it in values]
 
 
 class Bare(Dict[str, Callable[..., int]]):
@@ -122,7 +140,8 @@ class Library:
         if name not in PROTOTYPES:
             raise AttributeError(name)
         function = self.loaded[f"lockup_{name}"]
-        function.argtypes, function.restype = PROTOTYPES[name], c_uint32
+        function.argtypes = PROTOTYPES[name]  # type: ignore[assignment]
+        function.restype = c_uint32
         setattr(self, name, function)
         return function
 

@@ -1,13 +1,16 @@
 """A machine: a directory in slices, and cores with a private cache each."""
 import ctypes
 import struct
-from ctypes import c_uint64, c_void_p
-from types import TracebackType
-from typing import Iterator, Mapping, NoReturn, Optional, Sequence, Tuple, Type
+from ctypes import c_uint64
+from html import escape
+from operator import index
+from typing import Iterator, List, Mapping, NoReturn, Optional, Sequence, Tuple, Type, TypeVar, Union, overload
 
 from .errors import OutOfRange, error_of
-from .library import WORDS, library, number
+from .handle import Owner
+from .library import NOT_SMALL, WORDS, library, number, words as words_of
 from .names import Channel, CopyState, Delivered, Evicted, Misses, Policy
+from .picture import picture_of
 from .values import (
     ANSWERS, Copy, CoreCounts, Decision, Delivery, Directory, Entry, Issued, Message, MessageCounts, Planned, Receipt,
     Register, Target,
@@ -20,27 +23,48 @@ _words = {count: struct.Struct(f"={count}Q").unpack_from for count in range(1, M
 _three = _words[3]
 _new = tuple.__new__
 _NONE = WORDS[0]
+_Its = TypeVar("_Its", bound="Machine")
 
 
 class Config:
     """The configuration that a script has that says nothing, with other values for some fields.
 
     The fields are those of `lockup_config`: cores, slices, lines, sets, ways, mshrs, targets, writebacks, policy, seed,
-    misses, exclusive.
+    misses, exclusive. A configuration is immutable; `replace` makes another.
     """
 
+    __slots__ = ("_values",)
+    _values: Tuple[int, ...]
+
     def __init__(self, **fields: int) -> None:
-        self._values = (c_uint64 * len(FIELDS))()
-        library().defaults(ctypes.addressof(self._values))
-        for name, value in fields.items():
-            if name not in FIELDS:
-                raise TypeError(f"a machine has no {name}: {', '.join(FIELDS)}")
-            self._values[FIELDS.index(name)] = number(int(value))
+        usual = (c_uint64 * len(FIELDS))()
+        library().defaults(ctypes.addressof(usual))
+        object.__setattr__(self, "_values", _with(list(usual), fields))
+
+    def replace(self, **fields: int) -> "Config":
+        """Returns the configuration with other values for some fields.
+
+        >>> Config(cores=4).replace(ways=8).ways
+        8
+        """
+        return type(self)(**{**dict(zip(FIELDS, self._values)), **fields})
 
     def __getattr__(self, name: str) -> int:
         if name not in FIELDS:
             raise AttributeError(name)
         return self._values[FIELDS.index(name)]
+
+    def __setattr__(self, name: str, value: object) -> NoReturn:
+        raise AttributeError(f"a configuration is immutable: replace({name}=..) makes another")
+
+    def __eq__(self, other: object) -> bool:
+        return isinstance(other, Config) and self._values == other._values
+
+    def __hash__(self) -> int:
+        return hash(self._values)
+
+    def __reduce__(self) -> Tuple[object, ...]:
+        return _config_of, (type(self), self._values)
 
     def __repr__(self) -> str:
         return f"Config({', '.join(f'{name}={value}' for name, value in zip(FIELDS, self._values))})"
@@ -54,7 +78,19 @@ class Config:
         return "".join(f"{row}\n" for row in rows)
 
 
-class Machine:
+def _with(usual: Sequence[int], fields: Mapping[str, int]) -> Tuple[int, ...]:
+    """Returns the values of a configuration's fields: these, and else the usual ones."""
+    for name in fields:
+        if name not in FIELDS:
+            raise TypeError(f"a machine has no {name}: {', '.join(FIELDS)}")
+    return tuple(number(fields.get(name, value)) for name, value in zip(FIELDS, usual))
+
+
+def _config_of(kind: Type[Config], values: Tuple[int, ...]) -> Config:
+    return kind(**dict(zip(FIELDS, values)))
+
+
+class Machine(Owner):
     """A machine, step by step. Nothing happens by itself: each call makes one step, and the order is the caller's.
 
     >>> with Machine(cores=2, exclusive=True, init={0: 5}) as machine:
@@ -69,74 +105,61 @@ class Machine:
     the end of a `with`, or when it isn't used any more. It takes part in one call at a time: threads share none.
     """
 
+    _free = "free"
+
     def __init__(self, config: Optional[Config] = None, init: Optional[Mapping[int, int]] = None,
                  counters: Sequence[int] = (), **fields: int) -> None:
         """Makes a machine of a configuration, or of some fields of one. `init` maps words to the values with which they
         begin; `counters` are words that are never stored to."""
         if config is not None and fields:
             raise TypeError("a configuration, or fields of one")
-        self._begin(config or Config(**fields))
+        self._begin_with(config or Config(**fields))
         self._make(dict(init or {}), counters)
 
-    def _begin(self, config: Config) -> None:
+    def _begin_with(self, config: Config) -> None:
         """Begins with a handle that has nothing."""
-        self.config = config
-        self._handle = c_void_p()
-        self._at = ctypes.byref(self._handle)
+        self._begin()
+        self._config = config
         # outputs are read out of bytes, which costs less than out of an array of ctypes
         self._buffer = bytearray(8 * MOST_WORDS)
         self._out = ctypes.byref((c_uint64 * MOST_WORDS).from_buffer(self._buffer))
-        self._library = library()
         # what an access needs, found once: it is asked for most
         self._calls, self._issue = self._library.bare, self._library.bare["issue"]
+
+    @property
+    def config(self) -> Config:
+        """The configuration, which stays as it is."""
+        return self._config
 
     def _make(self, init: Mapping[int, int], counters: Sequence[int]) -> None:
         pairs = [number(it) for pair in sorted(init.items()) for it in pair]
         # an array of none still has an address
         first = (c_uint64 * max(len(pairs), 1))(*pairs)
         second = (c_uint64 * max(len(counters), 1))(*map(number, counters))
-        config, initial, counted = (ctypes.addressof(it) for it in (self.config._values, first, second))
+        fields = (c_uint64 * len(FIELDS))(*self.config._values)
+        config, initial, counted = (ctypes.addressof(it) for it in (fields, first, second))
         code = self._library.make_with(self._at, config, initial, len(pairs) // 2, counted, len(counters))
         if code:
             raise error_of(code)
 
-    def clone(self) -> "Machine":
-        """Returns the same machine once more: what is tried with one of them leaves the other as it is.
+    def clone(self: _Its) -> _Its:
+        """Returns the same machine once more: what is tried with one of them leaves the other as it is. Other attributes
+        are shared.
 
         >>> with Machine() as machine, machine.clone() as other:
         ...     other.load(0, tag=0, word=0), machine.quiet, other.quiet
         (<pending 0>, True, False)
         """
         other = object.__new__(type(self))
-        other._begin(self.config)
+        # but not whose handle it is, so that nobody frees the machine twice
+        other.__dict__.update({name: it for name, it in self.__dict__.items() if name not in ("_handle", "_at")})
+        other._begin_with(self.config)
         code = self._library.clone(self._at, other._at)
         if code:
             raise error_of(code)
         return other
 
-    def close(self) -> None:
-        """Frees the machine. Every other call then raises NoMachine."""
-        if self._handle:
-            self._library.free(self._at)
-
-    def __enter__(self) -> "Machine":
-        return self
-
-    def __exit__(self, kind: Optional[Type[BaseException]], error: Optional[BaseException],
-                 trace: Optional[TracebackType]) -> None:
-        self.close()
-
-    def __del__(self) -> None:
-        if getattr(self, "_handle", None):
-            self.close()
-
     __copy__ = clone
-
-    def __deepcopy__(self, memo: object) -> "Machine":
-        return self.clone()
-
-    def __reduce__(self) -> NoReturn:
-        raise TypeError("a machine is no text")
 
     def __repr__(self) -> str:
         if not self._handle:
@@ -144,9 +167,13 @@ class Machine:
         config = self.config
         return f"<lockup.Machine: {config.cores} cores, {config.slices} slices of {config.lines // config.slices} lines>"
 
+    def _repr_html_(self) -> str:
+        """Returns the picture that a notebook shows."""
+        return picture_of(self) if self._handle else f"<p>{escape(repr(self))}</p>"
+
     def _ask(self, name: str, count: int, *words: int) -> Tuple[int, ...]:
         """Calls a function, and returns the words of its output."""
-        code = self._calls[name](self._at, *[WORDS[it] for it in words], self._out)
+        code = self._calls[name](self._at, *words_of(words), self._out)
         if code:
             raise error_of(code)
         return _words[count](self._buffer)
@@ -165,8 +192,7 @@ class Machine:
 
         `operand` is what is stored or added, or what CAS expects; `replacement` is what CAS then writes.
         """
-        code = self._issue(self._at, WORDS[core], WORDS[tag], WORDS[op], WORDS[word], WORDS[operand],
-                           WORDS[replacement], self._out)
+        code = self._issue(self._at, *words_of((core, tag, op, word, operand, replacement)), self._out)
         if code:
             raise error_of(code)
         answer, number, reply = _three(self._buffer)
@@ -175,7 +201,14 @@ class Machine:
     def load(self, core: int, tag: int, word: int) -> Issued:
         """The core asks for the value of a word."""
         # as issue does, without a call in between: it is what is asked for most
-        code = self._issue(self._at, WORDS[core], WORDS[tag], _NONE, WORDS[word], _NONE, _NONE, self._out)
+        found = None
+        try:
+            if core | tag | word >= 0:
+                found = WORDS[core], WORDS[tag], WORDS[word]
+        except NOT_SMALL:
+            pass
+        who, which, where = found or words_of((core, tag, word))
+        code = self._issue(self._at, who, which, _NONE, where, _NONE, _NONE, self._out)
         if code:
             raise error_of(code)
         answer, number, reply = _three(self._buffer)
@@ -211,9 +244,13 @@ class Machine:
         while still:
             still = False
             for number in slices:
-                while self._ask("deliver_next", 5, number, Channel.ANY)[0] == Delivered.MOVED:
+                while self._moves(number):
                     moved, still = moved + 1, True
         return moved
+
+    def _moves(self, slice: int) -> bool:
+        """Delivers the next message of a slice, if one can be moved."""
+        return self._ask("deliver_next", 5, slice, Channel.ANY)[0] == Delivered.MOVED
 
     def hand(self, core: int, slice: int = 0) -> Optional[Receipt]:
         """Hands out the core's next reply of a slice, or None where it has none."""
@@ -307,10 +344,16 @@ class Log(Sequence[Entry]):
     def __len__(self) -> int:
         return self._machine._count("entries", self._slice)
 
-    def __getitem__(self, nth):  # type: ignore[no-untyped-def]
+    @overload
+    def __getitem__(self, nth: int) -> Entry: ...
+
+    @overload
+    def __getitem__(self, nth: slice) -> List[Entry]: ...
+
+    def __getitem__(self, nth: Union[int, slice]) -> Union[Entry, List[Entry]]:
         if isinstance(nth, slice):
             return [self[it] for it in range(*nth.indices(len(self)))]
-        place = nth + len(self) if nth < 0 else nth
+        place = index(nth) + len(self) if nth < 0 else index(nth)
         if place < 0:
             raise OutOfRange(2, "out of range")
         return Entry.of(self._machine._ask("entry_at", 9, self._slice, place))

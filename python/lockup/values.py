@@ -14,7 +14,7 @@ Cause = Union[Stall, Refused, None]
 
 # messages with a block
 CARRIERS = (MessageKind.PUTM, MessageKind.DATA, MessageKind.DATA_E, MessageKind.HOME)
-ANSWERS, CHANNELS, DELIVERED, KINDS, OPS = (tuple(it) for it in (Answer, Channel, Delivered, sorted(Kind), Op))
+ANSWERS, CHANNELS, DELIVERED, KINDS, OPS = tuple(Answer), tuple(Channel), tuple(Delivered), tuple(sorted(Kind)), tuple(Op)
 
 
 def cores_of(mask: int) -> Tuple[int, ...]:
@@ -51,7 +51,8 @@ class Issued(NamedTuple):
             return f"<done {self.number} reply {self.reply}>"
         if self.answer == Answer.PENDING:
             return f"<pending {self.number}>"
-        return f"<{self.answer.name.lower()} {self.reason.name}>"
+        reason = self.reason
+        return f"<{self.answer.name.lower()} {reason.name if reason else None}>"
 
 
 class Decision(NamedTuple):
@@ -102,7 +103,7 @@ class Delivery(NamedTuple):
         return cls(DELIVERED[answer], CHANNELS[channel] if answer == 0 else None, line, core, sender)
 
     def __repr__(self) -> str:
-        if self.answer != Delivered.MOVED:
+        if self.channel is None:
             return f"<{self.answer.name.lower()}>"
         return f"<moved {place_of(self.channel, self.line, self.core, self.sender)}>"
 
@@ -234,7 +235,8 @@ class CoreCounts(NamedTuple):
 
     @classmethod
     def of(cls, words: Sequence[int]) -> "CoreCounts":
-        return cls(*words[:3], tuple(words[3:8]), *words[8:])
+        hits, primary, secondary, *stalls, evictions, silent = words
+        return cls(hits, primary, secondary, tuple(stalls), evictions, silent)
 
 
 class MessageCounts(NamedTuple):

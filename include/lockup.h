@@ -47,6 +47,11 @@
 #include <stddef.h>
 #include <stdint.h>
 
+/* the version of this header; lockup_version() is that of the library */
+#define LOCKUP_VERSION_MAJOR 0
+#define LOCKUP_VERSION_MINOR 3
+#define LOCKUP_VERSION_PATCH 0
+
 #ifdef __cplusplus
 extern "C" {
 #endif
@@ -214,7 +219,8 @@ typedef struct { uint64_t word, value; } lockup_initial;
 /* what became of an access */
 typedef struct {
     uint64_t answer; /* LOCKUP_DONE, LOCKUP_PENDING, LOCKUP_STALL or LOCKUP_REFUSED */
-    uint64_t number; /* done: in the slice's log; pending: among the core's requests of the slice; else the reason */
+    uint64_t number; /* done: in the slice's log, as in the receipt of one that was pending; pending: among the core's
+                        requests of the slice, which is the `seq` of its entry; stall, refused: the reason */
     uint64_t reply;  /* done: the value that the word had before; of a store 0 */
 } lockup_issued;
 
@@ -253,10 +259,10 @@ typedef struct {
 
 /* a core's copy of a line */
 typedef struct {
-    uint64_t state;   /* LOCKUP_I, .. */
-    uint64_t wants;   /* acknowledgements that its data named */
-    uint64_t counted; /* acknowledgements that have come */
-    uint64_t block[8];
+    uint64_t state;    /* LOCKUP_I, .. */
+    uint64_t wants;    /* acknowledgements that its data named, 0 before; unspecified where none are waited for */
+    uint64_t counted;  /* acknowledgements that have come; unspecified there too */
+    uint64_t block[8]; /* unspecified in I, IS_D, IM_AD and II_A, in which a copy has none */
 } lockup_copy;
 
 /* the directory's entry of a line */
@@ -309,7 +315,7 @@ typedef struct {
 typedef struct {
     uint64_t line;
     uint64_t kind;    /* what it asked for: LOCKUP_MSG_GETS or LOCKUP_MSG_GETM */
-    uint64_t needed;  /* acknowledgements that it needs, or LOCKUP_UNKNOWN before its data */
+    uint64_t needed;  /* acknowledgements that it needs: 0 of a GetS; of a GetM LOCKUP_UNKNOWN before its data */
     uint64_t counted; /* acknowledgements that have come */
     uint64_t targets; /* accesses that wait in it */
 } lockup_register;
@@ -402,7 +408,8 @@ uint32_t lockup_free(lockup_machine *machine);
 
 /* The core asks for a word, under a tag from 0 to 63 that it has not in use in the word's slice. `operand` is the value
  * of LOCKUP_STORE, the addend of LOCKUP_ADD, and what LOCKUP_CAS expects; `replacement` is what LOCKUP_CAS then writes.
- * Any word is allowed: one past the memory is refused; so is a tag from 64 to 255. LOCKUP_NO_MEMORY. */
+ * The tag of one that is done is free at once, that of one that is pending from lockup_hand on; one that stalls or is
+ * refused takes none. Any word is allowed: one past the memory is refused; so is a tag from 64 to 255. LOCKUP_NO_MEMORY. */
 uint32_t lockup_issue(lockup_machine *machine, uint64_t core, uint64_t tag, uint64_t op, uint64_t word,
                       uint64_t operand, uint64_t replacement, lockup_issued *issued);
 

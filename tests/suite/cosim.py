@@ -11,7 +11,7 @@ import sys
 import tempfile
 from pathlib import Path
 
-from harness import ROOT, Ran, each, lockup, needs, read, run, same, seconds, want
+from harness import ROOT, Ran, each, lockup, needs, read, run, same, seconds, want, write
 from harness.library import shared
 from suite.histories import Access
 from suite.judged import is_sound
@@ -66,6 +66,39 @@ def needs_verilator() -> None:
 def test_systemverilog() -> None:
     needs_verilator()
     same("status and output", (0, AGREE), cosim("systemverilog")[:2])
+
+
+LISTS = """module lists;
+  import lockup_pkg::*;
+  chandle machine = null;
+  longint unsigned shape[12], pairs[128], counters[8], value[2];
+  initial begin
+    void'(lockup_defaults(shape));
+    foreach (pairs[it]) pairs[it] = it % 2 == 0 ? longint'(it) / 2 : longint'(it);
+    counters[0] = 3;
+    $display("%0d", lockup_make_with(machine, shape, pairs, 65, counters, 0));
+    $display("%0d", lockup_make_with(machine, shape, pairs, 64'd100000000, counters, 0));
+    $display("%0d", lockup_make_with(machine, shape, pairs, 0, counters, 9));
+    $display("%0d", machine == null);
+    $display("%0d", lockup_make_with(machine, shape, pairs, 64, counters, 1));
+    $display("%0d", lockup_word_at(machine, 63, value));
+    $display("%0d", value[1]);
+    $finish;
+  end
+endmodule
+"""
+
+
+@seconds(60)
+def test_lists_of_systemverilog() -> None:
+    """More initial values and counters than the lists have are refused, and not read."""
+    needs_verilator()
+    with tempfile.TemporaryDirectory() as room:
+        made = run(["verilator", "--binary", "--Mdir", room, "--top-module", "lists", ROOT / "systemverilog/lockup_pkg.sv",
+                    write(f"{room}/lists.sv", LISTS), shared(), "-LDFLAGS", f"-Wl,-rpath,{shared().parent}"])
+        same("status of verilator", 0, made.status)
+        told = [it for it in run([f"{room}/Vlists"]).out.splitlines() if not it.startswith("- ")]
+        same("codes and values", ["2", "2", "2", "1", "0", "0", "127"], told)
 
 
 @seconds(60)

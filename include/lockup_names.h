@@ -1,0 +1,92 @@
+/* Names of the numbers of lockup.h, as docs/TEXTS.md and docs/PROTOCOL.md have them, to print and to read them:
+ *
+ *     printf("%s\n", LOCKUP_NAME(copy_state, copy.state));                 // SM_AD
+ *     uint64_t state = LOCKUP_NUMBER(copy_state, "SM_AD");                 // LOCKUP_SM_AD, else LOCKUP_NO_NUMBER
+ *     if (code) fprintf(stderr, "%s\n", LOCKUP_NAME(code, code));          // out of range
+ *
+ * The kinds are the names of the lists below without `lockup_` and `_names`. A number without a name has "?". */
+#ifndef LOCKUP_NAMES_H
+#define LOCKUP_NAMES_H
+
+#include <string.h>
+#include "lockup.h"
+
+#define LOCKUP_NO_NUMBER UINT64_MAX
+#define LOCKUP_NAME(kind, number) \
+    lockup_name(lockup_##kind##_names, sizeof lockup_##kind##_names / sizeof *lockup_##kind##_names, number)
+#define LOCKUP_NUMBER(kind, name) \
+    lockup_number(lockup_##kind##_names, sizeof lockup_##kind##_names / sizeof *lockup_##kind##_names, name)
+
+/* a number and its name */
+typedef struct { uint64_t number; const char *name; } lockup_named;
+
+LOCKUP_INLINE const char *lockup_name(const lockup_named *names, size_t count, uint64_t number) {
+    size_t at;
+    for (at = 0; at < count; at++) if (names[at].number == number) return names[at].name;
+    return "?";
+}
+
+LOCKUP_INLINE uint64_t lockup_number(const lockup_named *names, size_t count, const char *name) {
+    size_t at;
+    for (at = 0; at < count; at++) if (!strcmp(names[at].name, name)) return names[at].number;
+    return LOCKUP_NO_NUMBER;
+}
+
+static const lockup_named lockup_code_names[] = {
+    {LOCKUP_OK, "ok"}, {LOCKUP_NO_MACHINE, "there is no machine"}, {LOCKUP_OUT_OF_RANGE, "out of range"},
+    {LOCKUP_NO_MEMORY, "no memory"}, {LOCKUP_IN_USE, "the handle has a machine already"},
+    {LOCKUP_NULL, "a pointer is NULL"}, {LOCKUP_CONFIG_CORES, "config 1 cores"},
+    {LOCKUP_CONFIG_SLICES, "config 2 slices"}, {LOCKUP_CONFIG_LINES, "config 3 lines"},
+    {LOCKUP_CONFIG_SETS, "config 4 sets"}, {LOCKUP_CONFIG_WAYS, "config 5 ways"},
+    {LOCKUP_CONFIG_MSHRS, "config 6 mshrs"}, {LOCKUP_CONFIG_TARGETS, "config 7 targets"},
+    {LOCKUP_CONFIG_WRITEBACKS, "config 8 writebacks"}, {LOCKUP_CONFIG_INIT, "config 9 init"},
+    {LOCKUP_CONFIG_COUNTERS, "config 10 counters"}
+};
+static const lockup_named lockup_op_names[] = {
+    {LOCKUP_LOAD, "load"}, {LOCKUP_STORE, "store"}, {LOCKUP_ADD, "add"}, {LOCKUP_CAS, "cas"}
+};
+static const lockup_named lockup_channel_names[] = {
+    {LOCKUP_REQ, "req"}, {LOCKUP_FWD, "fwd"}, {LOCKUP_DATA, "data"}, {LOCKUP_ACK, "ack"}, {LOCKUP_HOME, "home"}
+};
+static const lockup_named lockup_answer_names[] = {
+    {LOCKUP_DONE, "done"}, {LOCKUP_PENDING, "pending"}, {LOCKUP_STALL, "stall"}, {LOCKUP_REFUSED, "refused"}
+};
+static const lockup_named lockup_stall_names[] = {
+    {LOCKUP_NO_REGISTER, "NoRegister"}, {LOCKUP_NO_TARGET, "NoTarget"}, {LOCKUP_NO_WAY, "NoWay"},
+    {LOCKUP_WRITE_BACK_FULL, "WriteBackFull"}, {LOCKUP_WRITE_BACK_BUSY, "WriteBackBusy"}
+};
+static const lockup_named lockup_refused_names[] = {
+    {LOCKUP_NO_WORD, "OutOfRange"}, {LOCKUP_TAG_RANGE, "TagRange"}, {LOCKUP_TAG_BUSY, "TagBusy"},
+    {LOCKUP_COUNTER_STORE, "CounterStore"}
+};
+static const lockup_named lockup_evicted_names[] = {
+    {LOCKUP_EVICTING, "evicting"}, {LOCKUP_NOT_HELD, "not held"}, {LOCKUP_BUSY, "busy"}, {LOCKUP_BUFFER_FULL, "buffer full"}
+};
+static const lockup_named lockup_delivered_names[] = {
+    {LOCKUP_MOVED, "moved"}, {LOCKUP_BLOCKED, "blocked"}, {LOCKUP_NOTHING, "nothing"},
+    {LOCKUP_BROKEN_ENTRY, "broken entry"}, {LOCKUP_BROKEN_FULL, "broken full"}, {LOCKUP_BROKEN_EARLY, "broken early"}
+};
+static const lockup_named lockup_message_names[] = {
+    {LOCKUP_MSG_GETS, "GetS"}, {LOCKUP_MSG_GETM, "GetM"}, {LOCKUP_MSG_PUTS, "PutS"}, {LOCKUP_MSG_PUTM, "PutM"},
+    {LOCKUP_MSG_FWD_GETS, "Fwd-GetS"}, {LOCKUP_MSG_FWD_GETM, "Fwd-GetM"}, {LOCKUP_MSG_INV, "Inv"},
+    {LOCKUP_MSG_PUT_ACK, "Put-Ack"}, {LOCKUP_MSG_DATA, "Data"}, {LOCKUP_MSG_DATA_E, "Data-E"},
+    {LOCKUP_MSG_INV_ACK, "Inv-Ack"}, {LOCKUP_MSG_HOME, "Data home"}
+};
+static const lockup_named lockup_copy_state_names[] = {
+    {LOCKUP_I, "I"}, {LOCKUP_IS_D, "IS_D"}, {LOCKUP_IM_AD, "IM_AD"}, {LOCKUP_IM_A, "IM_A"}, {LOCKUP_S, "S"},
+    {LOCKUP_SM_AD, "SM_AD"}, {LOCKUP_SM_A, "SM_A"}, {LOCKUP_M, "M"}, {LOCKUP_MI_A, "MI_A"}, {LOCKUP_SI_A, "SI_A"},
+    {LOCKUP_II_A, "II_A"}, {LOCKUP_E, "E"}
+};
+static const lockup_named lockup_directory_state_names[] = {
+    {LOCKUP_DIR_I, "I"}, {LOCKUP_DIR_S, "S"}, {LOCKUP_DIR_M, "M"}, {LOCKUP_DIR_S_D, "S_D"}
+};
+static const lockup_named lockup_policy_names[] = {{LOCKUP_LRU, "lru"}, {LOCKUP_FIFO, "fifo"}, {LOCKUP_RANDOM, "random"}};
+static const lockup_named lockup_misses_names[] = {{LOCKUP_EXPLICIT, "explicit"}, {LOCKUP_INVERTED, "inverted"}};
+static const lockup_named lockup_verdict_names[] = {
+    {LOCKUP_LEGAL, "legal"}, {LOCKUP_WRONG_REPLY, "reply"}, {LOCKUP_WRONG_ORDER, "order"}, {LOCKUP_WRONG_SINCE, "since"}
+};
+static const lockup_named lockup_judgement_names[] = {
+    {LOCKUP_COHERENT, "coherent"}, {LOCKUP_INCOHERENT, "incoherent"}, {LOCKUP_UNDECIDED, "undecided"}
+};
+
+#endif

@@ -25,6 +25,8 @@ import re
 import shutil
 import sys
 import tempfile
+from contextlib import contextmanager
+from pathlib import Path
 from typing import Iterator
 
 from harness import (
@@ -44,6 +46,78 @@ def played(script: str, *words: str, under: tuple[str, ...] = ()) -> Ran:
 
 
 # ---- C
+
+@each(lambda: ["c89", "c99", "c11", "c++98", "c++11", "c++17"])
+def test_dialects(dialect: str) -> None:
+    """The headers are a program's in each dialect, with every warning."""
+    kind = "c++" if "+" in dialect else "cc"
+    needs(kind)
+    with tempfile.TemporaryDirectory() as room:
+        file = write(f"{room}/only{'.cc' if '+' in dialect else '.c'}", '#include "lockup_names.h"\nint main(void) { '
+                     "lockup_machine machine = {0};\n    return (int)lockup_free(&machine) + LOCKUP_VERSION_MAJOR; }\n")
+        made = run([kind, f"-std={dialect}", "-pedantic-errors", "-Wall", "-Wextra", "-Werror", "-I", INCLUDE, "-c", file,
+                    "-o", f"{room}/only.o"])
+        same("what the compiler says", (0, "", ""), tuple(made))
+
+
+# by the names of their lists, the enums of the module whose members they name
+NAMED = {"op": "Op", "channel": "Channel", "answer": "Answer", "stall": "Stall", "refused": "Refused", "evicted": "Evicted",
+         "delivered": "Delivered", "message": "MessageKind", "copy_state": "CopyState", "directory_state": "DirectoryState",
+         "policy": "Policy", "misses": "Misses", "verdict": "Verdict", "judgement": "Coherence"}
+NAMES = """#include "lockup_names.h"
+#include <stdio.h>
+#define SHOW(kind) for (number = 0; number < 128; number++) { \\
+    const char *name = LOCKUP_NAME(kind, number); \\
+    if (strcmp(name, "?")) printf("%s %d %d %s\\n", #kind, (int)number, LOCKUP_NUMBER(kind, name) == number, name); }
+int main(void) {
+    uint64_t number;
+    KINDS
+    return LOCKUP_NUMBER(op, "jump") == LOCKUP_NO_NUMBER ? 0 : 1;
+}
+"""
+
+
+def in_words(kind: str, name: str) -> str:
+    """The name of an enum's member as texts have it."""
+    if kind in ("CopyState", "DirectoryState"):
+        return name
+    if kind in ("Stall", "Refused"):
+        return name.title().replace("_", "")
+    if kind == "MessageKind":
+        part = {"GETS": "GetS", "GETM": "GetM", "PUTS": "PutS", "PUTM": "PutM"}
+        return "Data home" if name == "HOME" else "-".join(part.get(it, it.title()) for it in name.split("_"))
+    return name.lower().replace("_", " ")
+
+
+def test_names() -> None:
+    """Each number has the name that texts have, both ways: that of the module's enums, and of the reader of a configuration."""
+    needs("cc")
+    library = module()
+    with tempfile.TemporaryDirectory() as room:
+        kinds = "\n    ".join(f"SHOW({kind})" for kind in [*NAMED, "code"])
+        file = write(f"{room}/names.c", NAMES.replace("KINDS", kinds))
+        made = run(["cc", "-Wall", "-Wextra", "-Werror", "-I", INCLUDE, file, archive(), "-o", f"{room}/names"])
+        same("what the compiler says", (0, "", ""), tuple(made))
+        ran = run([f"{room}/names"])
+    same("status", 0, ran.status)
+    told = [line.split(maxsplit=3) for line in ran.out.splitlines()]
+    same("both ways", {"1"}, {both for _, _, both, _ in told})
+    found = {(kind, int(number), name) for kind, number, _, name in told}
+    wanted = {(kind, int(it), in_words(enum, it.name)) for kind, enum in NAMED.items() for it in getattr(library, enum)}
+    same("names", wanted - {("channel", 5, "any")}, {it for it in found if it[0] != "code"})
+    error_of = sys.modules["lockup.errors"].error_of
+    codes = {number: name for kind, number, name in found if kind == "code"}
+    same("codes", [0, 1, 2, 3, 4, 5, *range(101, 111)], sorted(codes))
+    for number in range(101, 111):
+        same(f"code {number}", str(error_of(number)), codes[number])
+
+
+def test_version() -> None:
+    parts = dict(re.findall(r"#define LOCKUP_VERSION_(\w+) (\d+)", read(HEADER)))
+    library = module()
+    same("version", ".".join(parts[it] for it in ("MAJOR", "MINOR", "PATCH")), library.library_version())
+    same("version of the module", library.library_version(), library.__version__)
+
 
 @each(lambda: ["c", "c++"])
 def test_first_page(language: str) -> None:
@@ -157,6 +231,12 @@ def test_refused_allocations(_: str, seed: int) -> None:
 
 # ---- codes
 
+def fields_of(**fields: int) -> ctypes.Array:
+    """Returns the fields of a configuration, as the library takes them."""
+    values = module().Config(**fields)._values
+    return (ctypes.c_uint64 * len(values))(*values)
+
+
 class Raw:
     """The functions of the shared object, on a handle and a buffer of its own."""
 
@@ -175,8 +255,8 @@ class Raw:
         return code, list(self.buffer[:out])
 
     def make(self, **fields: int) -> int:
-        config = module().Config(**fields)
-        return self("make", ctypes.addressof(config._values))[0]
+        values = fields_of(**fields)
+        return self("make", ctypes.addressof(values))[0]
 
 
 OK, NO_MACHINE, OUT_OF_RANGE, NO_MEMORY, IN_USE = range(5)
@@ -393,10 +473,10 @@ def test_configurations() -> None:
 
 
 def made_with(raw: Raw, pairs: list[int], counters: list[int]) -> int:
-    config = module().Config()
+    values = fields_of()
     initial = (ctypes.c_uint64 * max(len(pairs), 1))(*pairs)
     counted = (ctypes.c_uint64 * max(len(counters), 1))(*counters)
-    words = (ctypes.addressof(config._values), ctypes.addressof(initial), len(pairs) // 2, ctypes.addressof(counted),
+    words = (ctypes.addressof(values), ctypes.addressof(initial), len(pairs) // 2, ctypes.addressof(counted),
              len(counters))
     return raw("make_with", *words)[0]
 
@@ -672,9 +752,10 @@ def test_shown_python() -> None:
     """What docs/LIBRARY.md shows prints what stands behind its prints."""
     module()
     blocks = re.findall(r"```python\n(.*?)```", read(ROOT / "docs/LIBRARY.md"), re.S)
-    same("blocks", 3, len(blocks))
+    same("blocks", 4, len(blocks))
     for block in blocks:
-        wanted = "".join(f"{it}\n" for it in re.findall(r"^ *print\(.*\) +# (.*)$", block, re.M))
+        windows = int((re.findall(r"^for window in range\((\d+)\)", block, re.M) or ["1"])[0])
+        wanted = windows * "".join(f"{it}\n" for it in re.findall(r"^ *print\(.*\) +# (.*)$", block, re.M))
         code = run([sys.executable, "-c", block], env={**os.environ, "PYTHONPATH": str(ROOT / "python")})
         same("what it prints", (0, wanted, ""), tuple(code))
 
@@ -710,15 +791,29 @@ def test_errors_of_the_module() -> None:
     closed = library.Machine()
     closed.close()
     closed.close()
-    machine = library.Machine(cores=2)
+    machine, judge, histories = library.Machine(cores=2), library.Judge(), library.Histories()
     cases = [
         (lambda: closed.load(0, 0, 0), library.NoMachine, 1), (lambda: machine.load(2, 0, 0), library.OutOfRange, 2),
         (lambda: machine.log()[0], IndexError, 2), (lambda: machine.log(1), None, None),
         (lambda: library.Machine(ways=99), library.NotAllowed, 105),
         (lambda: library.Machine(ways=99), ValueError, 105), (lambda: copy.copy(closed), library.NoMachine, 1),
-        (lambda: library.Machine(way=1), TypeError, None), (lambda: machine.load(1 << 64, 0, 0), OverflowError, None),
-        (lambda: machine.store(0, 0, 0, -1), OverflowError, None), (lambda: machine.evict(-1, 0), OverflowError, None),
-        (lambda: library.Machine(cores=-1), OverflowError, None), (lambda: pickle.dumps(machine), TypeError, None),
+        (lambda: library.Machine(way=1), TypeError, None), (lambda: pickle.dumps(machine), TypeError, None),
+        *((call, library.OutOfRange, 2) for call in (
+            lambda: machine.load(1 << 64, 0, 0), lambda: machine.load(1023, 0, 0), lambda: machine.load(1024, 0, 0),
+            *(call for it in (-1, -2, -1023, -1024, -1025, -2047, -2048, -2049, -(1 << 64)) for call in (
+                lambda it=it: machine.load(it, 0, 0), lambda it=it: machine.load(0, it, 0),
+                lambda it=it: machine.load(0, 0, it), lambda it=it: machine.store(0, 0, 0, it),
+                lambda it=it: machine.evict(it, 0))),
+            lambda: library.Machine(cores=-1), lambda: judge.add(0, 0, library.Op.LOAD, 0, reply=-1),
+            lambda: histories.add(0, library.Op.LOAD, 0, reply=1 << 64), lambda: histories.begin(-1, 0))),
+        *((call, TypeError, None) for call in (
+            lambda: machine.load(1.0, 0, 0), lambda: machine.load(0, 2.7, 0), lambda: machine.evict(0, 3.0),
+            lambda: machine.store(0, 0, 0, "7"), lambda: machine.log()[0.0], lambda: library.Machine(ways=2.0),
+            lambda: library.Machine(counters=[8.0]), lambda: judge.add(0, 0, library.Op.LOAD, 0.0),
+            lambda: histories.add(0, library.Op.LOAD, 0, during=(0.5, 1)), lambda: histories.judge(limit=1e6),
+            lambda: copy.copy(judge), lambda: copy.deepcopy(histories), lambda: pickle.dumps(judge))),
+        (lambda: setattr(machine.config, "cores", 4), AttributeError, None),
+        (lambda: setattr(machine, "config", library.Config()), AttributeError, None),
     ]
     for call, kind, code in cases:
         raised = None
@@ -728,7 +823,46 @@ def test_errors_of_the_module() -> None:
             raised = error
         want(isinstance(raised, kind) if kind else raised is None, f"{raised!r} isn't {kind}")
         same("code", code, getattr(raised, "code", None))
+    same("what the calls left", (0, True), (len(machine.log()), machine.quiet))
     same("field", "ways", raised_by(library))
+
+
+def test_values_of_the_module() -> None:
+    """Errors and configurations are pickled, a clone of a subclass has its attributes, a large number is passed."""
+    library = module()
+    config = library.Config(cores=3, exclusive=1)
+    same("configuration", [config] * 2, [pickle.loads(pickle.dumps(config)), copy.deepcopy(config)])
+    same("another", (5, 3, 1), (config.replace(cores=5).cores, config.cores, config.replace(cores=5).exclusive))
+    for number, kind in ((1, library.NoMachine), (2, library.OutOfRange), (3, library.NoMemory), (105, library.NotAllowed)):
+        error = sys.modules["lockup.errors"].error_of(number)
+        again = pickle.loads(pickle.dumps(error))
+        same("error", (kind, error.code, str(error), vars(error)), (type(again), again.code, str(again), vars(again)))
+
+    class Named(library.Machine):
+        name = "none"
+
+    with Named(config) as machine:
+        machine.name = "first"
+        with machine.clone() as other:
+            same("clone", (Named, "first", config), (type(other), other.name, other.config))
+        for word, value in enumerate([(1 << 64) - 1, 1023, 1024, 1025, 1 << 63, True, False]):
+            machine.settle()
+            list(machine.replies(0))
+            machine.store(0, 0, word, value)
+        same("values", ((1 << 64) - 1, 1023, 1024, 1025, 1 << 63, 1, 0, 0), machine.copy(0, 0).block)
+
+
+def test_picture_of_a_machine() -> None:
+    library = module()
+    with library.Machine(cores=2) as machine:
+        machine.load(0, 0, 8)
+        machine.settle()
+        machine.store(1, 0, 8, 5)
+        picture = machine._repr_html_()
+    rows = [re.findall(r"<t[hd]>(.*?)</t[hd]>", row) for row in re.findall(r"<tr>(.*?)</tr>", picture)]
+    same("rows", [["line", "directory", "core 0", "core 1", "messages"],
+                  ["1", "S sharers 0", "S", "IM_AD", "req 1 1: GETM"]], rows)
+    same("closed", "<p>&lt;lockup.Machine: closed&gt;</p>", machine._repr_html_())
 
 
 def raised_by(library) -> str:
@@ -760,23 +894,65 @@ def test_texts_of_the_module() -> None:
                    "<lockup.Machine: closed>"], said)
 
 
-@seconds(20)
-def test_pip_install() -> None:
-    """Without the network, and with the shared object inside."""
-    library = shared()
+@contextmanager
+def pip_in() -> Iterator[tuple[str, dict[str, str]]]:
+    """A folder with a copy of python/, the licences beside it, and the environment that pip is to have there."""
     if run([sys.executable, "-m", "pip", "--version"]).status:
         raise Skipped("'pip' isn't there")
     with tempfile.TemporaryDirectory() as room:
         shutil.copytree(ROOT / "python", f"{room}/python", ignore=shutil.ignore_patterns("__pycache__"))
-        environment = {"PATH": os.environ["PATH"], "LOCKUP_LIBRARY": str(library), "HOME": room,
-                       "PIP_NO_INDEX": "1", "PIP_ROOT_USER_ACTION": "ignore", "PIP_DISABLE_PIP_VERSION_CHECK": "1"}
-        made = run([sys.executable, "-m", "pip", "install", "-q", "--target", f"{room}/to", f"{room}/python"],
+        for it in ROOT.glob("LICENSE*"):
+            shutil.copy(it, room)
+        yield room, {"PATH": os.environ["PATH"], "LOCKUP_LIBRARY": str(shared()), "HOME": room, "PIP_NO_INDEX": "1",
+                     "PIP_ROOT_USER_ACTION": "ignore", "PIP_DISABLE_PIP_VERSION_CHECK": "1"}
+
+
+def want_installed(room: str, at: str, environment: dict[str, str]) -> None:
+    """What is installed in the folder `to` runs, and stands at `at`."""
+    code = (f"import site\nsite.addsitedir('{room}/to')\nimport lockup\nwith lockup.Machine() as machine:\n"
+            "    machine.add(0, 0, 0, 5)\n    machine.settle()\n"
+            "    print(machine.word(0), machine.hand(0).reply, machine.word(0))\n    print(lockup.__file__)")
+    ran = run([sys.executable, "-c", code], cwd=room, env=environment)
+    same("output", (0, f"None 0 5\n{at}/lockup/__init__.py\n", ""), tuple(ran))
+
+
+@seconds(20)
+@each(lambda: ["folder", "archive"])
+def test_pip_install(kind: str) -> None:
+    """Without the network, and with the shared object inside: from the folder, and from the archive of the sources."""
+    with pip_in() as (room, environment):
+        what = f"{room}/python"
+        if kind == "archive":
+            code = f"import backend; print(backend.build_sdist('{room}'))"
+            what = f"{room}/{run([sys.executable, '-c', code], cwd=what, env=environment).out.strip()}"
+            shutil.rmtree(f"{room}/python")
+            environment.pop("LOCKUP_LIBRARY")
+        made = run([sys.executable, "-m", "pip", "install", "-q", "--target", f"{room}/to", what], cwd=room, env=environment)
+        same("pip", (0, ""), (made.status, made.err))
+        environment.pop("LOCKUP_LIBRARY", None)
+        want_installed(room, f"{room}/to", environment)
+        told = next(Path(f"{room}/to").glob("*.dist-info"))
+        same("licences", sorted(it.name for it in ROOT.glob("LICENSE*")), sorted(it.name for it in (told / "licenses").iterdir()))
+        want(re.search(r"^Tag: py3-none-manylinux_2_\d+_\w+$", read(told / "WHEEL"), re.M), read(told / "WHEEL"))
+
+
+@seconds(20)
+def test_pip_install_of_a_folder_that_changes() -> None:
+    with pip_in() as (room, environment):
+        made = run([sys.executable, "-m", "pip", "install", "-q", "--target", f"{room}/to", "-e", f"{room}/python"],
                    cwd=room, env=environment)
         same("pip", (0, ""), (made.status, made.err))
-        code = ("import lockup\nwith lockup.Machine() as machine:\n    machine.add(0, 0, 0, 5)\n    machine.settle()\n"
-                "    print(machine.word(0), machine.hand(0).reply, machine.word(0))\n    print(lockup.__file__)")
-        ran = run([sys.executable, "-c", code], cwd=room, env={"PATH": environment["PATH"], "PYTHONPATH": f"{room}/to"})
-        same("output", (0, f"None 0 5\n{room}/to/lockup/__init__.py\n", ""), tuple(ran))
+        want_installed(room, f"{room}/python", environment)
+
+
+@seconds(20)
+def test_pip_install_without_a_library() -> None:
+    with pip_in() as (room, environment):
+        environment["LOCKUP_LIBRARY"] = f"{room}/none.so"
+        made = run([sys.executable, "-m", "pip", "install", "-q", "--target", f"{room}/to", f"{room}/python"],
+                   cwd=room, env=environment)
+        want(made.status and "there is no liblockup.so; tools/library builds it" in made.err, made.err)
+        same("what it leaves", False, os.path.exists(f"{room}/to/lockup"))
 
 
 # ---- what is written more than once
@@ -870,14 +1046,17 @@ def test_functions_of_python() -> None:
 
 def test_functions_of_systemverilog() -> None:
     text = " ".join(re.sub(r"//.*", "", read(ROOT / "systemverilog/lockup_pkg.sv")).split())
+    # an import under another name stands for the function of C that it names
+    imports = re.findall(r'import "DPI-C" (?:lockup_(\w+) = )?function int unsigned lockup_(\w+)\((.*?)\);', text)
+    imported = [(name or local, body) for name, local, body in imports]
     found = {}
-    for name, body in re.findall(r"function int unsigned lockup_(\w+)\((.*?)\);", text):
+    for name, body in imported:
         rows = [it.strip() for it in body.split(",") if it.strip()]
         found[name] = ["handle" if "chandle" in it else "buffer" if it.startswith("output") or "[" in it else "number"
                        for it in rows]
     same("functions", header_functions(), found)
     outputs = {name: [int(it or 1) for it in re.findall(r"output longint unsigned \w+(?:\[(\d+)\])?", body)]
-               for name, body in re.findall(r"function int unsigned lockup_(\w+)\((.*?)\);", text)}
+               for name, body in imported}
     words = header_words()
     wanted = {name: [words[it.split()[0]] for it in rows if "*" in it and it.split()[0] not in ("const", *HANDLES)]
               for name, rows in header_parameters().items()}

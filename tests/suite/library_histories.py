@@ -3,11 +3,13 @@ are incoherent exactly where a search through all orders finds none; each reason
 which changes nothing; handles of another kind; and with each allocation refused in turn histories aren't begun, or end, or
 stay as they are."""
 import ctypes
+import os
 import random
+import sys
 import tempfile
 from types import ModuleType
 
-from harness import each, each_refused, needs, run, same, seconds, want, write
+from harness import ROOT, each, each_refused, needs, run, same, seconds, want, write
 from harness.library import INCLUDE, module, shared
 from suite.histories import Access, History, drawn, spoiled
 from suite.judged import LINES, is_sound, shuffled
@@ -240,3 +242,43 @@ def test_without_memory() -> None:
             told.append(ran.out)
         same("with ample memory", "whole 1 9 1\n", told[0])
         same("what is said", {"whole 1 9 1\n", "once more 1 9 1\n", "none 1\n", f"ended 1 {NO_MACHINE}\n"}, set(told))
+
+
+# ---- a window at a time
+
+WINDOWS = """
+import random, resource, sys
+from lockup import Histories, Op
+words, begins, time, wrong = dict.fromkeys(range(16), 0), dict.fromkeys(range(16), 0), 0, int(sys.argv[1])
+draw, lost = random.Random(3), None
+for window in range(24):
+    with Histories(init=begins) as histories:
+        for nth in range(10_000):
+            time, word = time + 2, draw.randrange(16)
+            histories.add(draw.randrange(4), Op.ADD, word, operand=1, reply=words[word], during=(time, time + 1))
+            is_lost = window == wrong and nth == (9_999 if wrong % 2 else 0)
+            words[word] += not is_lost
+            lost = word if is_lost else lost
+        for word in words:
+            time += 2
+            histories.add(0, Op.LOAD, word, reply=words[word], during=(time, time + 1))
+        begins = dict(words)
+        judged = histories.judge()
+        print(judged.verdict.name, judged.word, lost)
+    if window == 3:
+        had = resource.getrusage(resource.RUSAGE_SELF).ru_maxrss
+print(resource.getrusage(resource.RUSAGE_SELF).ru_maxrss - had)
+"""
+
+
+@seconds(30)
+@each(lambda: ["-1", "0", "11", "23"])
+def test_windows(wrong: str) -> None:
+    """A lost add, the first or the last of a window, is found there and nowhere else, and memory is that of one window."""
+    module()
+    ran = run([sys.executable, "-c", WINDOWS, wrong], env={**os.environ, "PYTHONPATH": str(ROOT / "python")})
+    *told, grown = ran.out.splitlines()
+    same("windows", (24, ""), (len(told), ran.err))
+    for window, (verdict, word, lost) in enumerate(map(str.split, told)):
+        same(f"window {window}", ("INCOHERENT", lost) if str(window) == wrong else ("COHERENT", "None"), (verdict, word))
+    want(int(grown) < 8 * 1024, f"memory grows by {grown} KB")

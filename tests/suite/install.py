@@ -14,7 +14,7 @@ from contextlib import contextmanager
 from pathlib import Path
 from typing import Iterator
 
-from harness import ROOT, is_sanitized, lockup, needs, program, read, run, same, seconds, write
+from harness import ROOT, is_sanitized, lockup, needs, program, read, run, same, seconds, want, write
 from harness.library import FIRST_SAYS, archive, shared
 
 FIRST_ADD = "examples/first_add"
@@ -43,6 +43,31 @@ def put_library(top: Path) -> None:
     (top / "crates/lockup_c/out").mkdir(parents=True)
     for path in (archive(), shared()):
         shutil.copy(path, top / "crates/lockup_c/out")
+
+
+CMAKE = """cmake_minimum_required(VERSION 3.5)
+project(first C)
+find_package(lockup {version} REQUIRED)
+foreach(library lockup static)
+    add_executable(first_${{library}} "{first}")
+    target_link_libraries(first_${{library}} lockup::${{library}})
+endforeach()
+"""
+
+
+def check_cmake(prefix: Path) -> None:
+    """find_package finds the library of the version that is there, and of no other."""
+    version = lockup("--version").out.split()[-1]
+    release, number = version.rsplit(".", 1)
+    for wanted, is_there in ((version, True), (release, True), (f"{release}.{int(number) + 1}", False), ("99.0", False)):
+        with tempfile.TemporaryDirectory() as room:
+            write(f"{room}/CMakeLists.txt", CMAKE.format(version=wanted, first=prefix / FIRST))
+            made = run(["cmake", "-S", room, "-B", f"{room}/made", f"-DCMAKE_PREFIX_PATH={prefix}"])
+            want((made.status == 0) == is_there, f"find_package(lockup {wanted}):\n{made.out}{made.err}")
+            if is_there:
+                same("cmake --build", 0, run(["cmake", "--build", f"{room}/made"]).status)
+                for library in ("lockup", "static"):
+                    same(library, (0, FIRST_SAYS, ""), tuple(run([f"{room}/made/first_{library}"])))
 
 
 FIRST = "share/doc/lockup/examples/library/first.c"
@@ -147,6 +172,15 @@ def test_install_library() -> None:
         ran = run([top / "tools/install", "--prefix", room / "a_prefix"])
         same("install", (0, 1), (ran.status, ran.err.count("\n")))
         check_library(room / "a_prefix", room)
+
+
+@seconds(20)
+def test_cmake() -> None:
+    needs("cmake", "make", "cc")
+    with tree() as (top, room):
+        put_library(top)
+        same("install", 0, run([top / "tools/install", "--prefix", room / "a_prefix"]).status)
+        check_cmake(room / "a_prefix")
 
 
 @seconds(10)

@@ -130,6 +130,22 @@ def test_first_page(language: str) -> None:
         same("output", (0, FIRST_SAYS, ""), tuple(run([f"{room}/first"])))
 
 
+@seconds(70)
+def test_an_unproved_library() -> None:
+    """What tools/library --unproved builds has the functions of the header, and does what the first page says."""
+    needs("rt", "cc", "nm")
+    made = run([ROOT / "tools/library", "--unproved"], timeout=None)
+    same("tools/library --unproved", (0, ""), (made.status, made.err))
+    built, linked = map(Path, made.out.split())
+    named = {line.split()[-1] for line in run(["nm", "-D", "--defined-only", linked]).out.splitlines()}
+    same("the functions", set(re.findall(r"^uint32_t (lockup_\w+)\(", read(HEADER), re.M)), named)
+    with tempfile.TemporaryDirectory() as room:
+        for library in (built, linked):
+            words = ["cc", FIRST, f"-I{INCLUDE}", library, f"-Wl,-rpath,{linked.parent}", "-o", f"{room}/first"]
+            same("the compiler", (0, "", ""), tuple(run(words)))
+            same(library.name, (0, FIRST_SAYS, ""), tuple(run([f"{room}/first"])))
+
+
 def without_rings(answers: str) -> str:
     """Returns answers without what the player doesn't print of `show`: replies that wait, and rings."""
     return re.sub(r"^(core \d+ tag \d+ entry \d+|slice \d+ ring.*)\n", "", answers, flags=re.M)

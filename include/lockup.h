@@ -65,6 +65,10 @@ enum {
     LOCKUP_NO_MEMORY = 3,
     LOCKUP_IN_USE = 4,       /* the handle has one already */
     LOCKUP_NULL = 5,         /* a pointer is NULL */
+    /* lockup_scoreboard.h returns them, no function of the library */
+    LOCKUP_DIFFERS = 6,      /* the design isn't as the model */
+    LOCKUP_NOT_RECORDED = 7, /* not all calls were kept */
+    LOCKUP_NOT_WRITTEN = 8,  /* the file can't be written */
     /* the configuration isn't allowed: the first field at fault */
     LOCKUP_CONFIG_CORES = 101,
     LOCKUP_CONFIG_SLICES = 102,

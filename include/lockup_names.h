@@ -35,7 +35,10 @@ LOCKUP_INLINE uint64_t lockup_number(const lockup_named *names, size_t count, co
 static const lockup_named lockup_code_names[] = {
     {LOCKUP_OK, "ok"}, {LOCKUP_NO_MACHINE, "there is no machine"}, {LOCKUP_OUT_OF_RANGE, "out of range"},
     {LOCKUP_NO_MEMORY, "no memory"}, {LOCKUP_IN_USE, "the handle has a machine already"},
-    {LOCKUP_NULL, "a pointer is NULL"}, {LOCKUP_CONFIG_CORES, "config 1 cores"},
+    {LOCKUP_NULL, "a pointer is NULL"},
+    /* only lockup_scoreboard.h returns these three */
+    {LOCKUP_DIFFERS, "the design differs"}, {LOCKUP_NOT_RECORDED, "not all calls were kept"},
+    {LOCKUP_NOT_WRITTEN, "cannot write"}, {LOCKUP_CONFIG_CORES, "config 1 cores"},
     {LOCKUP_CONFIG_SLICES, "config 2 slices"}, {LOCKUP_CONFIG_LINES, "config 3 lines"},
     {LOCKUP_CONFIG_SETS, "config 4 sets"}, {LOCKUP_CONFIG_WAYS, "config 5 ways"},
     {LOCKUP_CONFIG_MSHRS, "config 6 mshrs"}, {LOCKUP_CONFIG_TARGETS, "config 7 targets"},

@@ -53,7 +53,7 @@ def test_dialects(dialect: str) -> None:
     kind = "c++" if "+" in dialect else "cc"
     needs(kind)
     with tempfile.TemporaryDirectory() as room:
-        file = write(f"{room}/only{'.cc' if '+' in dialect else '.c'}", '#include "lockup_names.h"\nint main(void) { '
+        file = write(f"{room}/only{'.cc' if '+' in dialect else '.c'}", '#include "lockup_scoreboard.h"\nint main(void) { '
                      "lockup_machine machine = {0};\n    return (int)lockup_free(&machine) + LOCKUP_VERSION_MAJOR; }\n")
         made = run([kind, f"-std={dialect}", "-pedantic-errors", "-Wall", "-Wextra", "-Werror", "-I", INCLUDE, "-c", file,
                     "-o", f"{room}/only.o"])
@@ -107,7 +107,7 @@ def test_names() -> None:
     same("names", wanted - {("channel", 5, "any")}, {it for it in found if it[0] != "code"})
     error_of = sys.modules["lockup.errors"].error_of
     codes = {number: name for kind, number, name in found if kind == "code"}
-    same("codes", [0, 1, 2, 3, 4, 5, *range(101, 111)], sorted(codes))
+    same("codes", [*range(9), *range(101, 111)], sorted(codes))
     for number in range(101, 111):
         same(f"code {number}", str(error_of(number)), codes[number])
 
@@ -1014,7 +1014,8 @@ def test_numbers_of_python() -> None:
             name = RENAMED.get(f"{kind.__name__.upper()}_{member.name}", member.name)
             same(f"{kind.__name__}.{member.name}", numbers.get(f"LOCKUP_{name}"), int(member))
     named = {f"LOCKUP_{RENAMED.get(f'{kind.__name__.upper()}_{it.name}', it.name)}" for kind in kinds for it in kind}
-    codes = re.compile(r"LOCKUP_(OK|NO_MACHINE|OUT_OF_RANGE|NO_MEMORY|IN_USE|NULL|CONFIG_\w+|NO_CORE|UNKNOWN)$")
+    codes = re.compile(r"LOCKUP_(OK|NO_MACHINE|OUT_OF_RANGE|NO_MEMORY|IN_USE|NULL|DIFFERS|NOT_RECORDED|NOT_WRITTEN|CONFIG_\w+"
+                       r"|NO_CORE|UNKNOWN)$")
     same("numbers without a name in Python", [], [it for it in numbers if it not in named and not codes.match(it)])
 
 

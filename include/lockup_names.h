@@ -92,4 +92,21 @@ static const lockup_named lockup_judgement_names[] = {
     {LOCKUP_COHERENT, "coherent"}, {LOCKUP_INCOHERENT, "incoherent"}, {LOCKUP_UNDECIDED, "undecided"}
 };
 
+/* The first field for which lockup_make refuses a configuration, or NULL where it makes a machine. Of LOCKUP_OUT_OF_RANGE
+ * it says which: "policy", "misses" and "exclusive" come first. (0 - 1 is past each bound.) */
+LOCKUP_INLINE const char *lockup_config_fault(const lockup_config *config) {
+    if (!config) return "config";
+    if (config->policy > LOCKUP_RANDOM) return "policy";
+    if (config->misses > LOCKUP_INVERTED) return "misses";
+    if (config->exclusive > 1) return "exclusive";
+    if (config->cores - 1 >= 64) return "cores";
+    if (config->slices - 1 >= 4 || config->slices == 3) return "slices";
+    if (config->lines - 1 >= 65536 || config->lines % config->slices) return "lines";
+    if (config->sets - 1 >= 256 || (config->sets & (config->sets - 1))) return "sets";
+    if (config->ways - 1 >= 16) return "ways";
+    if (config->mshrs - 1 >= 32) return "mshrs";
+    if (config->targets - 1 >= 32) return "targets";
+    return config->writebacks - 1 >= 16 ? "writebacks" : NULL;
+}
+
 #endif

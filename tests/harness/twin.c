@@ -203,8 +203,9 @@ static uint32_t message_at(void *of, uint64_t line, uint64_t nth, lockup_message
 /* ---- calls */
 
 static uint32_t issue(void) {
-    const uint64_t core = draw(config.cores), op = draw(4), tag = draw(9) ? draw(6) : 62 + draw(4);
-    const uint64_t word = draw(20) ? draw(8 * config.lines) : 8 * config.lines + draw(9);
+    const uint64_t core = draw(config.cores), op = draw(4), low = draw(6), high = 62 + draw(4);
+    const uint64_t tag = draw(9) ? low : high;
+    const uint64_t inside = draw(8 * config.lines), past = 8 * config.lines + draw(9), word = draw(20) ? inside : past;
     const uint64_t operand = draw(3), other = draw(3);
     lockup_issued it;
     uint32_t code;
@@ -227,7 +228,7 @@ static uint32_t evict(void) {
 /* Mostly of a channel with a message. */
 static uint32_t deliver(void) {
     lockup_message it;
-    uint64_t answer = 0, count = 0;
+    uint64_t answer = 0, count = 0, nth;
     uint32_t code;
     memset(&it, 0, sizeof it);
     it.channel = draw(5);
@@ -235,7 +236,8 @@ static uint32_t deliver(void) {
     it.core = draw(config.cores);
     it.from = draw(config.cores);
     CHECK(lockup_messages(&machine, it.line, &count));
-    if (count) CHECK(lockup_message_at(&machine, it.line, draw(count), &it));
+    nth = draw(count ? count : 1);
+    if (count) CHECK(lockup_message_at(&machine, it.line, nth, &it));
     CHECK(lockup_deliver(&machine, it.channel, it.line, it.core, it.from, &answer));
     spoil("deliver", &answer, 0);
     CALL(code, lockup_expect_deliver(&board, it.channel, it.line, it.core, it.from, answer));
@@ -243,7 +245,7 @@ static uint32_t deliver(void) {
 }
 
 static uint32_t next(void) {
-    const uint64_t slice = draw(config.slices), channel = draw(3) ? (uint64_t)LOCKUP_ANY : draw(5);
+    const uint64_t slice = draw(config.slices), one = draw(5), channel = draw(3) ? (uint64_t)LOCKUP_ANY : one;
     lockup_next_delivery it;
     uint32_t code;
     memset(&it, 0, sizeof it);

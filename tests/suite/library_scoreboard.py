@@ -397,3 +397,52 @@ def test_codes() -> None:
     """Each code, and texts that a buffer of eight bytes cuts."""
     ran = of_program(CODES)
     same("what it says", (0, SAYS_CODES, ""), tuple(ran))
+
+
+# ---- the field for which a configuration is refused
+
+FAULTS = r"""
+#include "lockup_names.h"
+#include <stdio.h>
+static void say(const lockup_config *config, int field) {
+    lockup_machine machine = {0};
+    const char *fault = lockup_config_fault(config);
+    const int code = (int)lockup_make(&machine, config);
+    if (!code) lockup_free(&machine);
+    printf("%d %d %s\n", field, code, fault ? fault : "none");
+}
+int main(void) {
+    static const uint64_t tried[] = {0, 1, 2, 3, 4, 5, 8, 12, 15, 16, 17, 31, 32, 33, 63, 64, 65, 128, 255, 256, 257, 512,
+                                     65535, 65536, 65537, (uint64_t)1 << 32, UINT64_MAX};
+    size_t field, other, at;
+    lockup_config config;
+    for (field = 0; field < 12; field++)
+        for (at = 0; at < sizeof tried / sizeof *tried; at++) {
+            lockup_defaults(&config);
+            (&config.cores)[field] = tried[at];
+            say(&config, (int)field);
+        }
+    for (field = 0; field < 12; field++)
+        for (other = 0; other < 12; other++) {
+            lockup_defaults(&config);
+            (&config.cores)[field] = (&config.cores)[other] = UINT64_MAX;
+            say(&config, -1);
+        }
+    return strcmp(lockup_config_fault(NULL), "config");
+}
+"""
+FIELDS = "cores slices lines sets ways mshrs targets writebacks policy seed misses exclusive".split()
+
+
+@seconds(2)
+def test_faults_of_configurations() -> None:
+    """lockup_config_fault names the field exactly where lockup_make refuses it."""
+    ran = of_program(FAULTS)
+    same("status and error", (0, ""), (ran.status, ran.err))
+    rows = [row.split() for row in ran.out.splitlines()]
+    same("rows", 12 * (27 + 12), len(rows))
+    for field, code, fault in rows:
+        codes = (0,) if fault == "none" else (2,) if fault in FIELDS[8:] else (101 + FIELDS.index(fault),)
+        want(int(code) in codes, f"of {fault} the code is {code}")
+        want(int(field) < 0 or fault in ("none", FIELDS[int(field)]), f"{fault} is named for {FIELDS[int(field)]}")
+    want(10 < sum(fault == "none" for _, _, fault in rows) < len(rows) - 10, "all are alike")

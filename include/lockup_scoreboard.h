@@ -20,9 +20,8 @@
  *
  * What isn't compared has no meaning in its place:
  *
- *   answers      the reply of a store; the reply and the number of an access that isn't done, but that of one that is
- *                pending and the reason of a stall or a refusal; of a delivery that moved nothing its channel; of a channel
- *                what it doesn't name (home no core, and only ack the core from which it comes)
+ *   answers      the reply of a store, and of an access that isn't done; the channel of a next delivery that moved nothing;
+ *                what a channel doesn't name (home no core, and only ack the core from which it comes)
  *   copies       the acknowledgements that have come but in IM_AD, SM_AD, IM_A and SM_A; those that the data named but in
  *                IM_A and SM_A; the block in I, IS_D, IM_AD and II_A
  *   directory    the owner but in M; the sharers but in S and S_D; the home copy but in I and S, where it is current

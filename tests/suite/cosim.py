@@ -1,6 +1,6 @@
 """Runs what examples/cosim shows: a cache that agrees with the golden model over 100,000 calls, and
-the same with a planted bug, which is found at the first answer that differs. The counterexample is
-a script: played by the program its last answer is the golden model's, and it can be drawn.
+the same with a planted bug, which is found at the first answer or state that differs. The
+counterexample is a script: the program answers it as the golden model did, and it can be drawn.
 
 In SystemVerilog under Verilator (each of four wrong rows), in C++ (each of three bugs of its miss
 registers), and as a trace that is judged as it comes. From what the caches in SystemVerilog answer
@@ -15,44 +15,29 @@ from harness import ROOT, Ran, each, lockup, needs, read, run, same, seconds, wa
 from harness.library import shared
 from suite.histories import Access
 from suite.judged import is_sound
+from suite.library_scoreboard import PLANTS, SEEDS, script_of, twin
 
 FOLDER = ROOT / "examples/cosim"
 AGREE = "agree: 100000 calls\n"
-DIFFER = re.compile(r"differ at call (\d+): (.*)\n *golden model: answer (\d) reason (\d) reply (\d+)\n"
-                    r" *cache: *answer (\d) reason (\d) reply (\d+)\n *the calls that lead there: (.*)\n")
+DIFFER = re.compile(r"((?:after )?call (\d+), (.*?): .* is (.*), and the design's is (.*))\n  the calls that lead there: (.*)\n")
 
 
 def cosim(*words: str | Path) -> Ran:
     return run([FOLDER / words[0], *words[1:]], env={**os.environ, "LOCKUP_LIBRARY": str(shared())})
 
 
-def answers_of(script: Path) -> list[str]:
-    ran = lockup("script", script)
-    same("status and error of the counterexample", (0, ""), (ran.status, ran.err))
-    return ran.out.splitlines()
-
-
-def golden_answer(command: str, answer: int, reason: int, reply: int) -> str:
-    """Returns what a script prints where the golden model answers so."""
-    verb = command.split()[0]
-    if verb == "issue":
-        return [f"done .* reply {reply}", "pending .*", f"stall {reason} .*", f"refused {reason} .*"][answer]
-    if verb == "evict":
-        return ["evicting", "not held", "busy", "buffer full"][answer]
-    if verb == "deliver":
-        return ["moved", "blocked", "nothing"][answer]
-    return f"receipt .* tag {reason} reply {reply}" if answer else "none"
-
-
 def judge_difference(ran: Ran, script: Path) -> None:
     same("status and error", (1, ""), (ran.status, ran.err))
     told = DIFFER.fullmatch(ran.out)
     want(told, f"it says no difference: {ran.out}")
-    want(told.groups()[2:5] != told.groups()[5:8], "the two answers are the same")
-    command, golden = told[2], [int(it) for it in told.groups()[2:5]]
-    same("the last command", command, read(script).splitlines()[-1])
-    want(re.fullmatch(golden_answer(command, *golden), answers_of(script)[-1]), "the script's last answer is another")
-    chart = lockup("chart", script)
+    want(told[4] != told[5], "the two answers are the same")
+    *_, command, comment = read(script).splitlines()
+    same("the last command", told[3], command.partition(" = ")[0])
+    same("the comment", f"# {told[1]}", comment)
+    wanted = read(script).count(" = ")
+    same("as the program answers", (0, f"as wanted: {wanted} lines\n", ""), tuple(lockup("test", script)))
+    text = re.sub(" = .*", "", read(script))
+    chart = lockup("chart", "-", text=text)
     same("status and error of its chart", (0, ""), (chart.status, chart.err))
     want(chart.out.startswith("sequenceDiagram\n"), "it has no chart")
 
@@ -180,3 +165,31 @@ def test_trace(name: str) -> None:
     same("status", wanted.status, ran.status)
     want(ran.out.startswith(wanted.out.rstrip("\n")), f"check says {wanted.out}, the judge {ran.out}")
     same("it is as planted", int(bool(words)), ran.status)
+
+
+def twin_of_systemverilog(room: str) -> str:
+    sources = [*(ROOT / "systemverilog" / it for it in ("lockup_pkg.sv", "lockup_scoreboard.sv")), ROOT / "tests/harness/twin.sv"]
+    made = run(["verilator", "--binary", "-O3", "-j", "2", "--Mdir", room, "--top-module", "twin", *sources, shared(),
+                "-LDFLAGS", f"-Wl,-rpath,{shared().parent}"])
+    want(made.status == 0, made.err)
+    return f"{room}/Vtwin"
+
+
+@seconds(90)
+def test_scoreboards() -> None:
+    """The class says of each planted change what the scoreboard in C says, and writes the same script."""
+    needs_verilator()
+    with tempfile.TemporaryDirectory() as room:
+        made, script = twin_of_systemverilog(room), f"{room}/script.txt"
+        for what, place, key, where in [("none", 0, 0, ""), ("reverse", "registers", 0, ""), *PLANTS]:
+            words = {"place": place, "key": key} if isinstance(place, int) else {"planted": place}
+            # the first seeds that show it, as in C
+            for seed in SEEDS:
+                ran = run([twin(), str(seed), "1000", "1", what, str(place), str(key)])
+                if ran.status or not where:
+                    break
+            told = run([made, f"+seed={seed}", "+calls=1000", f"+script={script}", f"+plant={what}",
+                        *(f"+{name}={value}" for name, value in words.items())])
+            _, *said = ran.out.partition("cores ")[0].splitlines() if ran.status else ("", "agree", "")
+            same(f"what it says of {what} {place} {key}", said[0], told.out.splitlines()[0])
+            same(f"script of {what} {place} {key}", script_of(ran), read(script))

@@ -101,7 +101,8 @@ def use_library(prefix: Path, room: Path) -> None:
     same("the Python module", (0, "0 <done 1 reply 5>\n", ""), tuple(ran))
     ran = run([prefix / "share/doc/lockup/examples/cosim/cpp", "0", "1000"], env=plain)
     same("the C++ example", (0, "agree: 1000 calls\n", ""), tuple(ran))
-    same("the imports", True, (prefix / "share/lockup/systemverilog/lockup_pkg.sv").is_file())
+    for name in ("lockup_pkg.sv", "lockup_scoreboard.sv"):
+        same(name, True, (prefix / "share/lockup/systemverilog" / name).is_file())
 
 
 def options_of(command: str) -> list[str]:

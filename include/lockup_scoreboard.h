@@ -10,7 +10,7 @@
  *     if (lockup_expect_issue(&board, 0, 3, LOCKUP_LOAD, 8, 0, 0, &answered) == LOCKUP_DIFFERS
  *         || lockup_compare(&board, &design) == LOCKUP_DIFFERS) {
  *         lockup_difference_text(&board, said, sizeof said);   // call 17, issue 0 3 load 8: reply is 5, and the design's is 4
- *         lockup_write_script(&board, file);
+ *         lockup_write_script(&board, file, 0);                // for lockup chart, page and script --explain
  *     }
  *     lockup_scoreboard_end(&board);
  *
@@ -919,8 +919,8 @@ LOCKUP_INLINE void lockup_write_settings(const lockup_config *config, FILE *file
     fprintf(file, "misses %s\nexclusive %s\n", LOCKUP_NAME(misses, config->misses), config->exclusive ? "on" : "off");
 }
 
-/* A call and its answer. A next delivery is the delivery that it made, or a comment. */
-LOCKUP_INLINE void lockup_write_call(const lockup_call *call, FILE *file) {
+/* A call, and its answer if that is asked for. A next delivery is the delivery that it made, or a comment. */
+LOCKUP_INLINE void lockup_write_call(const lockup_call *call, FILE *file, int has_answers) {
     char row[LOCKUP_TEXT];
     lockup_text text = lockup_text_in(row, sizeof row);
     const lockup_next_delivery *next = &call->told.next;
@@ -930,16 +930,16 @@ LOCKUP_INLINE void lockup_write_call(const lockup_call *call, FILE *file) {
     else if (call->kind == LOCKUP_CALL_NEXT)
         lockup_put(&text, "# ");
     lockup_put_call(&text, &made);
-    lockup_put(&text, " = ");
-    lockup_put_answer(&text, &made);
+    if (has_answers) lockup_put(&text, " = ");
+    if (has_answers) lockup_put_answer(&text, &made);
     lockup_put(&text, "\n");
     lockup_put_end(&text);
     fputs(row, file);
 }
 
-/* Writes the calls as a script of `lockup test`, with the answers of the model; behind the call that differs a comment
- * says what the design has. LOCKUP_NOT_RECORDED where a call was made under LOCKUP_RECORD_NONE; LOCKUP_NOT_WRITTEN. */
-LOCKUP_INLINE uint32_t lockup_write_script(const lockup_scoreboard *board, FILE *file) {
+/* Writes the calls as a script, with `has_answers` as one of `lockup test`, which wants the answers of the model; behind
+ * the call that differs a comment says what the design has. LOCKUP_NOT_RECORDED where a call was made under LOCKUP_RECORD_NONE; LOCKUP_NOT_WRITTEN. */
+LOCKUP_INLINE uint32_t lockup_write_script(const lockup_scoreboard *board, FILE *file, int has_answers) {
     char said[LOCKUP_TEXT];
     size_t at;
     if (!board || !file) return LOCKUP_NULL;
@@ -948,7 +948,7 @@ LOCKUP_INLINE uint32_t lockup_write_script(const lockup_scoreboard *board, FILE 
     lockup_write_settings(&board->config, file);
     for (at = 0; at < board->initial_count; at++) lockup_write_row(file, "init", &board->initial[at].word, 2);
     for (at = 0; at < board->counter_count; at++) lockup_write_row(file, "counter", &board->counters[at], 1);
-    for (at = 0; at < board->made_count; at++) lockup_write_call(&board->made[at], file);
+    for (at = 0; at < board->made_count; at++) lockup_write_call(&board->made[at], file, has_answers);
     lockup_difference_text(board, said, sizeof said);
     if (board->difference.found) fprintf(file, "# %s\n", said);
     return fflush(file) || ferror(file) ? LOCKUP_NOT_WRITTEN : LOCKUP_OK;

@@ -60,7 +60,7 @@ public:
         lockup_difference_text(&board, said, sizeof said);
         std::cout << said << "\n  the calls that lead there: " << script << "\n";
         std::FILE *file = std::fopen(script.c_str(), "w");
-        uint32_t code = file ? lockup_write_script(&board, file) : uint32_t(LOCKUP_NOT_WRITTEN);
+        uint32_t code = file ? lockup_write_script(&board, file, 0) : uint32_t(LOCKUP_NOT_WRITTEN);
         if (code) std::cerr << script << ": " << LOCKUP_NAME(code, code) << "\n";
         if (file) std::fclose(file);
     }

@@ -304,7 +304,7 @@ static void say(void) {
     CHECK(lockup_difference_text(&board, text, sizeof text));
     if (it->found) printf("%s.%s %lu %lu\n", it->what, it->field, (unsigned long)it->wanted, (unsigned long)it->came);
     printf("%s\nlacked %d\n", it->found ? text : "agree", lacked);
-    code = lockup_write_script(&board, stdout);
+    code = lockup_write_script(&board, stdout, 1);
     if (code) printf("%s\n", LOCKUP_NAME(code, code));
 }
 

@@ -246,7 +246,7 @@ int main(void) {
     receipt.tag = 5;
     receipt.reply = LOCKUP_UNSEEN;
     say(lockup_expect_hand(&board, 0, 0, &receipt));
-    if (lockup_write_script(&board, stdout)) return 4;
+    if (lockup_write_script(&board, stdout, 1)) return 4;
     return (int)lockup_scoreboard_end(&board);
 }
 """
@@ -332,8 +332,8 @@ int main(void) {
     say(lockup_call_text(&call, NULL, 8));
     say(lockup_answer_text(NULL, text, sizeof text));
     say(lockup_answer_text(&call, NULL, 8));
-    say(lockup_write_script(NULL, stdout));
-    say(lockup_write_script(&board, NULL));
+    say(lockup_write_script(NULL, stdout, 1));
+    say(lockup_write_script(&board, NULL, 1));
     say(lockup_scoreboard_end(NULL));
     puts("null");
     say(lockup_expect_issue(&board, 0, 0, 0, 0, 0, 0, &issued));
@@ -342,7 +342,7 @@ int main(void) {
     say(lockup_expect_next(&board, 0, 0, &next));
     say(lockup_expect_hand(&board, 0, 0, &receipt));
     say(lockup_compare(&board, &design));
-    say(lockup_write_script(&board, stdout));
+    say(lockup_write_script(&board, stdout, 1));
     say(lockup_scoreboard_end(&board));
     puts("none");
     say(lockup_scoreboard_begin(&board, &none, NULL, 0, NULL, 0));
@@ -350,7 +350,7 @@ int main(void) {
     say(lockup_scoreboard_begin(&board, &config, NULL, 0, NULL, 0));
     say(lockup_scoreboard_begin(&board, &config, NULL, 0, NULL, 0));
     say(lockup_compare(&board, &design));
-    say(lockup_write_script(&board, full));
+    say(lockup_write_script(&board, full, 1));
     say(lockup_expect_evict(&board, 2, 0, 0));
     say(lockup_expect_evict(&board, 0, 0, LOCKUP_BUSY));
     say(lockup_expect_evict(&board, 0, 0, LOCKUP_NOT_HELD));

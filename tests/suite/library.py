@@ -740,7 +740,7 @@ def test_judge_beside_check(_: str, seed: int) -> None:
 
 # ---- Python
 
-@each(lambda: ["machine", "judge", "histories"])
+@each(lambda: ["machine", "judge", "histories", "scoreboard"])
 def test_examples_of_the_module(part: str) -> None:
     library = module()
     tested = doctest.testmod(part_of(part), extraglobs={it: getattr(library, it) for it in library.__all__})
@@ -931,6 +931,8 @@ def test_pip_install(kind: str) -> None:
         same("pip", (0, ""), (made.status, made.err))
         environment.pop("LOCKUP_LIBRARY", None)
         want_installed(room, f"{room}/to", environment)
+        ran = run([f"{room}/to/bin/lockup-shrink", "-"], "issue 0 0 load 0\n", env={**environment, "PYTHONPATH": f"{room}/to"})
+        same("lockup-shrink", (0, "lockup-shrink: 1 of 1 commands are left"), (ran.status, ran.err.partition(";")[0]))
         told = next(Path(f"{room}/to").glob("*.dist-info"))
         same("licences", sorted(it.name for it in ROOT.glob("LICENSE*")), sorted(it.name for it in (told / "licenses").iterdir()))
         want(re.search(r"^Tag: py3-none-manylinux_2_\d+_\w+$", read(told / "WHEEL"), re.M), read(told / "WHEEL"))

@@ -752,7 +752,7 @@ def test_shown_python() -> None:
     """What docs/LIBRARY.md shows prints what stands behind its prints."""
     module()
     blocks = re.findall(r"```python\n(.*?)```", read(ROOT / "docs/LIBRARY.md"), re.S)
-    same("blocks", 4, len(blocks))
+    same("blocks", 5, len(blocks))
     for block in blocks:
         windows = int((re.findall(r"^for window in range\((\d+)\)", block, re.M) or ["1"])[0])
         wanted = windows * "".join(f"{it}\n" for it in re.findall(r"^ *print\(.*\) +# (.*)$", block, re.M))

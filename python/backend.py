@@ -15,6 +15,8 @@ from pathlib import Path
 HERE = Path(__file__).resolve().parent
 NAME = "lockup"
 LIBRARY = "liblockup.so"
+# programs, and the functions that they call
+SCRIPTS = "[console_scripts]\nlockup-shrink = lockup.shrink:main\n"
 # by the number of an ELF file
 MACHINES = {b"\x3e\0": "x86_64", b"\xb7\0": "aarch64"}
 
@@ -68,6 +70,7 @@ def write_wheel(folder: str, files: "dict[str, bytes]", tag: str) -> str:
     pure = "true" if tag.endswith("any") else "false"
     kind = f"Wheel-Version: 1.0\nGenerator: lockup\nRoot-Is-Purelib: {pure}\nTag: {tag}\n"
     files = {**files, f"{told}/METADATA": metadata().encode(), f"{told}/WHEEL": kind.encode(),
+             f"{told}/entry_points.txt": SCRIPTS.encode(),
              **{f"{told}/licenses/{name}": text for name, text in licences().items()}}
     files[f"{told}/RECORD"] = record_of(files, f"{told}/RECORD")
     name = f"{NAME}-{version()}-{tag}.whl"

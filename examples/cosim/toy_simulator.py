@@ -7,35 +7,51 @@ With --lost-update an add now and then reads its word before another core's acce
 """
 import argparse
 import random
+from typing import Iterator, NamedTuple, Optional
 
 CORES, WORDS = 4, 4
 MASK = (1 << 64) - 1
+HEAD = "lockup-trace no-since"
+
+
+class Access(NamedTuple):
+    """An access of a core, and what an add lets in between its load and its store."""
+
+    core: int
+    kind: str
+    word: int
+    value: int
+    lets_in: "Optional[Access]" = None
+
+
+def drawn(draw: random.Random, core: int, word: int, loses: bool) -> Access:
+    kind, value = draw.choice(("load", "store", "add")), draw.randrange(1, 100)
+    lets_in = loses and kind == "add" and draw.randrange(200) == 0
+    return Access(core, kind, word, value, drawn(draw, (core + 1) % CORES, word, loses) if lets_in else None)
+
+
+def accesses(seed: int, count: int, loses: bool) -> Iterator[Access]:
+    draw = random.Random(seed)
+    return (drawn(draw, draw.randrange(CORES), draw.randrange(WORDS), loses) for _ in range(count))
 
 
 class Simulator:
     """A memory, and how many accesses each core has made."""
 
-    def __init__(self, seed: int, loses: bool) -> None:
-        self.random, self.loses = random.Random(seed), loses
+    def __init__(self) -> None:
         self.memory, self.made = [0] * WORDS, [0] * CORES
 
-    def show(self, core: int, access: str, reply: int) -> None:
-        print(f"entry {core} {self.made[core]} 0 {access} {reply}", flush=True)
-        self.made[core] += 1
-
-    def access(self, core: int, word: int) -> None:
-        kind, before = self.random.choice(("load", "store", "add")), self.memory[word]
-        value = self.random.randrange(1, 100)
-        if kind == "load":
-            self.show(core, f"load {word}", before)
-        elif kind == "store":
-            self.memory[word] = value
-            self.show(core, f"store {word} {value}", 0)
-        else:
-            if self.loses and self.random.randrange(200) == 0:
-                self.access((core + 1) % CORES, word)
-            self.memory[word] = (before + value) & MASK
-            self.show(core, f"add {word} {value}", before)
+    def access(self, it: Access) -> Iterator[str]:
+        """Performs an access. Returns its entry of a trace, behind those of what it lets in."""
+        before = self.memory[it.word]
+        if it.lets_in:
+            yield from self.access(it.lets_in)
+        after = {"load": before, "store": it.value, "add": (before + it.value) & MASK}[it.kind]
+        operand = [] if it.kind == "load" else [it.value]
+        self.memory[it.word] = after
+        yield " ".join(map(str, ["entry", it.core, self.made[it.core], 0, it.kind, it.word, *operand,
+                                 0 if it.kind == "store" else before]))
+        self.made[it.core] += 1
 
 
 def main() -> None:
@@ -44,10 +60,11 @@ def main() -> None:
     parser.add_argument("--count", type=int, default=2000)
     parser.add_argument("--seed", type=int, default=1)
     options = parser.parse_args()
-    simulator = Simulator(options.seed, options.lost_update)
-    print("lockup-trace no-since")
-    for _ in range(options.count):
-        simulator.access(simulator.random.randrange(CORES), simulator.random.randrange(WORDS))
+    simulator = Simulator()
+    print(HEAD)
+    for it in accesses(options.seed, options.count, options.lost_update):
+        for row in simulator.access(it):
+            print(row, flush=True)
 
 
 if __name__ == "__main__":

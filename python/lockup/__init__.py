@@ -1,9 +1,11 @@
 """lockup: lockup-free private caches with explicitly addressed miss registers, kept coherent by a directory.
 
-`Machine` is the proved machine, call by call. `Judge` judges the trace of any cache, entry by entry, and `Histories` what
-its cores asked for and were answered, in no known order. Each call does what the same line of a script does (docs/TEXTS.md); docs/LIBRARY.md says what is proved.
+`Machine` is the proved machine, call by call; `Scoreboard` holds a design against one, and `lockup.shrink` makes the script
+of a fault short. `Judge` judges the trace of any cache, entry by entry, and `Histories` what its cores asked for and were
+answered, in no known order. Each call does what the same line of a script does (docs/TEXTS.md); docs/LIBRARY.md says what is
+proved.
 """
-from .errors import InUse, LockupError, NoMachine, NoMemory, NotAllowed, OutOfRange
+from .errors import Differs, InUse, LockupError, NoMachine, NoMemory, NotAllowed, OutOfRange
 from .histories import Histories
 from .judge import Judge
 from .library import library as _library
@@ -12,6 +14,7 @@ from .names import (
     Answer, Channel, Coherence, CopyState, Delivered, DirectoryState, Evicted, Kind, MessageKind, Misses, Op, Policy,
     Refused, Stall, Verdict, Why,
 )
+from .scoreboard import Scoreboard
 from .values import (
     Copy, CoreCounts, Decision, Delivery, Directory, Entry, Issued, Judged, Judgement, Message, MessageCounts, Planned,
     Reason, Receipt, Register, Target,
@@ -21,10 +24,10 @@ __version__ = "0.3.0"
 
 __all__ = [
     "Answer", "Channel", "Coherence", "Config", "Copy", "CopyState", "CoreCounts", "Decision", "Delivered",
-    "Delivery", "Directory", "DirectoryState", "Entry", "Evicted", "Histories", "InUse", "Issued", "Judge",
+    "Delivery", "Differs", "Directory", "DirectoryState", "Entry", "Evicted", "Histories", "InUse", "Issued", "Judge",
     "Judged", "Judgement", "Kind", "LockupError", "Log", "Machine", "Message", "MessageCounts", "MessageKind",
     "Misses", "NoMachine", "NoMemory", "NotAllowed", "Op", "OutOfRange", "Planned", "Policy", "Reason", "Receipt",
-    "Refused", "Register", "Stall", "Target", "Verdict", "Why", "library_version",
+    "Refused", "Register", "Scoreboard", "Stall", "Target", "Verdict", "Why", "library_version",
 ]
 
 

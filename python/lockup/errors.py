@@ -1,4 +1,5 @@
-"""An exception for each code that a call can return."""
+"""An exception for each code that a call can return, and one for a design that differs from the machine."""
+from enum import Enum
 from typing import Dict, Tuple, Type
 
 FIELDS = ("cores", "slices", "lines", "sets", "ways", "mshrs", "targets", "writebacks", "init", "counters")
@@ -37,6 +38,26 @@ class NotAllowed(LockupError, ValueError):
     def __init__(self, code: int, said: str) -> None:
         super().__init__(code, said)
         self.field = FIELDS[code - 101]
+
+
+class Differs(AssertionError):
+    """A design came to something else than the machine: at which `call`, as a script has it, in which `field`, what was
+    `wanted`, and what `came`."""
+
+    def __init__(self, call: str, field: str, wanted: object, came: object) -> None:
+        super().__init__(f"{call or 'before any call'}: {differs_text(field, wanted, came)}")
+        self.call, self.field, self.wanted, self.came = call, field, wanted, came
+
+    def __reduce__(self) -> "Tuple[Type[Differs], Tuple[str, str, object, object]]":
+        return type(self), (self.call, self.field, self.wanted, self.came)
+
+
+def differs_text(field: str, wanted: object, came: object) -> str:
+    return f"{field} is {shown(came)}, and {shown(wanted)} is wanted"
+
+
+def shown(value: object) -> str:
+    return value.name if isinstance(value, Enum) else str(value)
 
 
 _KINDS: Dict[int, Tuple[Type[LockupError], str]] = {

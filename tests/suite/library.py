@@ -756,7 +756,7 @@ def test_judge_beside_check(_: str, seed: int) -> None:
 
 # ---- Python
 
-@each(lambda: ["machine", "judge", "histories"])
+@each(lambda: ["machine", "judge", "histories", "scoreboard"])
 def test_examples_of_the_module(part: str) -> None:
     library = module()
     tested = doctest.testmod(part_of(part), extraglobs={it: getattr(library, it) for it in library.__all__})
@@ -768,7 +768,7 @@ def test_shown_python() -> None:
     """What docs/LIBRARY.md shows prints what stands behind its prints."""
     module()
     blocks = re.findall(r"```python\n(.*?)```", read(ROOT / "docs/LIBRARY.md"), re.S)
-    same("blocks", 4, len(blocks))
+    same("blocks", 5, len(blocks))
     for block in blocks:
         windows = int((re.findall(r"^for window in range\((\d+)\)", block, re.M) or ["1"])[0])
         wanted = windows * "".join(f"{it}\n" for it in re.findall(r"^ *print\(.*\) +# (.*)$", block, re.M))
@@ -947,6 +947,8 @@ def test_pip_install(kind: str) -> None:
         same("pip", (0, ""), (made.status, made.err))
         environment.pop("LOCKUP_LIBRARY", None)
         want_installed(room, f"{room}/to", environment)
+        ran = run([f"{room}/to/bin/lockup-shrink", "-"], "issue 0 0 load 0\n", env={**environment, "PYTHONPATH": f"{room}/to"})
+        same("lockup-shrink", (0, "lockup-shrink: 1 of 1 commands are left"), (ran.status, ran.err.partition(";")[0]))
         told = next(Path(f"{room}/to").glob("*.dist-info"))
         same("licences", sorted(it.name for it in ROOT.glob("LICENSE*")), sorted(it.name for it in (told / "licenses").iterdir()))
         want(re.search(r"^Tag: py3-none-manylinux_2_\d+_\w+$", read(told / "WHEEL"), re.M), read(told / "WHEEL"))

@@ -5,6 +5,8 @@
 //!   answer beside its command, and [`run_json`] each command as a value of JSON. [`run_chart`] draws the run as a
 //!   sequence diagram, [`run_svg`] one line of it over time (of those that the machine has, [`line_count`]),
 //!   [`run_page`] writes it as a page for a browser, and [`run_waves`] as waves for a wave viewer.
+//! - [`run_coverage`] prints how often a script met each cell of the tables, and a [`Coverage`] adds what was
+//!   printed, for [`print_coverage`] to print.
 //! - [`run_trace`] writes a model checker's trace as a script.
 //! - [`run_prompt`] answers a script's lines one by one, and gives a [`Saver`] the script so far.
 //! - [`run_test`] tests a script against the answers that it wants.
@@ -33,7 +35,7 @@ pub use hints::{TextKind, hint};
 pub use judge::{JudgeForm, run_judge};
 pub use litmus_chart::{line_count, run_chart, run_svg};
 pub use litmus_command_line::{
-    CommandLine, ModelCores, ScriptForm, Table, read_line, read_settings,
+    CommandLine, ModelCores, ScriptForm, Table, read_files, read_line, read_settings,
 };
 pub use litmus_outcomes::OutcomeForm;
 pub use litmus_script::run_script;
@@ -47,6 +49,8 @@ pub use program_sweep::{
     RowFault, RowForm, Seeds, Setting, Sweep, SweepFault, program_name, run_sweep,
 };
 pub use program_text::Limits;
+pub use protocol_coverage::{Coverage, Unread};
+pub use script_coverage::{print_coverage, run_coverage};
 pub use script_explained::{run_beside, run_explained};
 pub use script_json::run_json;
 pub use script_page::run_page;

@@ -49,7 +49,16 @@ abbrev pub script_app : App
 script_app =
     with_rules (new_app (codes "script"))
     (file_rule ∷ flag_rule (codes "echo") ∷ flag_rule (codes "explain") ∷ lone_rule (codes "beside")
-    ∷ lone_rule (codes "vcd") ∷ lone_rule (codes "from-murphi") ∷ lone_rule (codes "json") ∷ [])
+    ∷ lone_rule (codes "vcd") ∷ lone_rule (codes "from-murphi") ∷ lone_rule (codes "json")
+    ∷ lone_rule (codes "coverage") ∷ [])
+
+-- the argument that names one text or more
+abbrev pub files_rule : Rule
+files_rule = record file_rule { action = Some Append }
+
+-- the subcommand that adds what runs of scripts counted
+abbrev pub coverage_app : App
+coverage_app = with_rules (new_app (codes "coverage")) (files_rule ∷ [])
 
 -- the subcommand that answers a script's lines one by one, behind a text that may be left out
 abbrev pub try_app : App
@@ -210,7 +219,9 @@ table_program names =
     (with_subcommand
     (with_subcommand
     (with_subcommand
-    (with_subcommand (with_subcommand (with_subcommand top_app script_app.top) try_app.top) chart_app.top)
+    (with_subcommand
+    (with_subcommand (with_subcommand (with_subcommand top_app script_app.top) coverage_app.top) try_app.top)
+    chart_app.top)
     page_app.top)
     litmus_app.top)
     walk_app.top)
@@ -300,19 +311,21 @@ IsNumberIfGiven name rows None = first_of name rows ≡ None
 IsNumberIfGiven name rows (Some n) = IsNumberOf name rows n
 
 -- these options of `script` were given, and no other
-abbrev pub AreGiven : List Row → (echo explain beside vcd from_murphi json : Bool) → Type 0
-AreGiven rows echo explain beside vcd from_murphi json =
+abbrev pub AreGiven : List Row → (echo explain beside vcd from_murphi json coverage : Bool) → Type 0
+AreGiven rows echo explain beside vcd from_murphi json coverage =
     (echo ≡ is_given (codes "echo") rows) × (explain ≡ is_given (codes "explain") rows)
     × (beside ≡ is_given (codes "beside") rows) × (vcd ≡ is_given (codes "vcd") rows)
     × (from_murphi ≡ is_given (codes "from-murphi") rows) × (json ≡ is_given (codes "json") rows)
+    × (coverage ≡ is_given (codes "coverage") rows)
 
 -- the options ask for this form, and none of them is left out of it
 abbrev pub IsFormOf : List Row → ScriptForm → Type 0
-IsFormOf rows (script_forms.Answers echo explain) = AreGiven rows echo explain false false false false
-IsFormOf rows (script_forms.Beside explain) = AreGiven rows false explain true false false false
-IsFormOf rows script_forms.Waves = AreGiven rows false false false true false false
-IsFormOf rows script_forms.Json = AreGiven rows false false false false false true
-IsFormOf rows script_forms.FromMurphi = AreGiven rows false false false false true false
+IsFormOf rows (script_forms.Answers echo explain) = AreGiven rows echo explain false false false false false
+IsFormOf rows (script_forms.Beside explain) = AreGiven rows false explain true false false false false
+IsFormOf rows script_forms.Waves = AreGiven rows false false false true false false false
+IsFormOf rows script_forms.Json = AreGiven rows false false false false false true false
+IsFormOf rows script_forms.FromMurphi = AreGiven rows false false false false true false false
+IsFormOf rows script_forms.Coverage = AreGiven rows false false false false false false true
 
 -- rows are asked for, and no report
 abbrev pub is_swept : List Row → Bool
@@ -323,6 +336,7 @@ is_swept rows =
 abbrev pub IsLine : Text → List Row → CommandLine → Type 0
 IsLine name rows (command_lines.Script file form) =
     (name ≡ codes "script") × (first_of (codes "FILE") rows ≡ Some file.now) × IsFormOf rows form
+IsLine name rows command_lines.Coverage = name ≡ codes "coverage"
 IsLine name rows (command_lines.Try file) =
     (name ≡ codes "try") × (option_map (λ f. f.now) file ≡ first_of (codes "FILE") rows)
 IsLine name rows (command_lines.Chart file svg line) =
@@ -385,14 +399,14 @@ IsAsked read line = IsSomeAnd read (λ p. IsLine p.0 p.1 line)
 abbrev pub IsRead : List Text → CommandLine → Type 0
 IsRead words line = (app : App) × IsLockup app × IsAsked (subcommand_of app words) line
 
--- what stands behind each `--set`
-abbrev pub settings_of : List Row → List Text
-settings_of rows = unwrap_or (all_of (codes "set") rows) []
+-- all texts that an argument or option of this name was given
+abbrev pub texts_of : Text → List Row → List Text
+texts_of name rows = unwrap_or (all_of name rows) []
 
-abbrev pub settings_in : Option (Text × List Row) → List Text
-settings_in None = []
-settings_in (Some read) = settings_of read.1
+abbrev pub texts_in : Text → Option (Text × List Row) → List Text
+texts_in name None = []
+texts_in name (Some read) = texts_of name read.1
 
--- .. of the program's words
-abbrev pub AreSettings : List Text → List Text → Type 0
-AreSettings words texts = (app : App) × IsLockup app × (texts ≡ settings_in (subcommand_of app words))
+-- .. among the program's words
+abbrev pub AreTexts : Text → List Text → List Text → Type 0
+AreTexts name words texts = (app : App) × IsLockup app × (texts ≡ texts_in name (subcommand_of app words))

@@ -1,7 +1,7 @@
 ghost use Rattle.std.specs.Prelude.{◌≡◌, ◌<◌, map, IfOk, IfSome, Some, string_bytes, codes, false, is_some};
 ghost use Rattle.litmus_command_line.specs.CommandLine.{IsAsked, IsFormOf, IsLine, IsRead, is_given, word_of, IsNumberOf};
-ghost use Rattle.litmus_command_line.specs.CommandLine.{IsNumberIfGiven, word_of_form, word_of_number, AreSettings, is_swept, settings_in};
-ghost use Rattle.litmus_command_line.specs.CommandLine.{settings_of};
+ghost use Rattle.litmus_command_line.specs.CommandLine.{IsNumberIfGiven, word_of_form, word_of_number, AreTexts, is_swept, texts_in};
+ghost use Rattle.litmus_command_line.specs.CommandLine.{texts_of};
 ghost use Rattle.std.specs.Option.{option_map};
 ghost use Rattle.clap.specs.Words.{found_of, rows_of, first_of, subcommand_rows_of};
 
@@ -21,6 +21,8 @@ pub enum CommandLine<'a> {
         file: &'a str,
         form: ScriptForm,
     },
+    /// Add what runs of scripts counted, in the files that `read_files` reads.
+    Coverage,
     /// Answer a script's lines one by one, behind the script in this file if one is named.
     Try {
         file: Option<&'a str>,
@@ -154,29 +156,52 @@ pub fn read_line<'a>(alloc: Global, words: &'a [String]) -> Result<CommandLine<'
 /// Reads the settings that vary, each as it is written behind `--set`, of words that ask for rows.
 pub fn read_settings<'a>(alloc: Global, words: &'a [String]) -> Result<Vec<&'a str>, Error>
     ensures { IfOk result
-        (λ texts. AreSettings (map string_bytes words.entry.now) (map (λ text. text.now) texts.items)) }
+        (λ texts. AreTexts (codes "set") (map string_bytes words.entry.now) (map (λ text. text.now) texts.items)) }
+{
+    read_texts(alloc, words, "set")
+}
+
+/// Reads the files that words name which ask to add counts.
+pub fn read_files<'a>(alloc: Global, words: &'a [String]) -> Result<Vec<&'a str>, Error>
+    ensures { IfOk result
+        (λ texts. AreTexts (codes "FILE") (map string_bytes words.entry.now) (map (λ text. text.now) texts.items)) }
+{
+    read_texts(alloc, words, "FILE")
+}
+
+fn read_texts<'a>(alloc: Global, words: &'a [String], name: &str) -> Result<Vec<&'a str>, Error>
+    ensures { IfOk result
+        (λ texts. AreTexts name.now (map string_bytes words.entry.now) (map (λ text. text.now) texts.items)) }
 {
     let matches = lockup(alloc)?.try_get_matches_from(words)?;
-    let texts = settings_in(alloc, &matches);
+    let texts = texts_in(alloc, &matches, name);
     drop(matches);
     Ok(texts?)
 }
 
-fn settings_in<'a>(alloc: Global, matches: &ArgMatches<'a>) -> Result<Vec<&'a str>, AllocError>
+fn texts_in<'a>(
+    alloc: Global,
+    matches: &ArgMatches<'a>,
+    name: &str,
+) -> Result<Vec<&'a str>, AllocError>
     ensures { IfOk result
-        (λ texts. map (λ text. text.now) texts.items ≡ settings_in (subcommand_rows_of matches.now)) }
+        (λ texts. map (λ text. text.now) texts.items ≡ texts_in name.now (subcommand_rows_of matches.now)) }
 {
     match matches.subcommand() {
-        Some((_, given)) => settings_of(alloc, given),
+        Some((_, given)) => texts_of(alloc, given, name),
         None => Ok(Vec::new(alloc)),
     }
 }
 
-fn settings_of<'a>(alloc: Global, given: &ArgMatches<'a>) -> Result<Vec<&'a str>, AllocError>
+fn texts_of<'a>(
+    alloc: Global,
+    given: &ArgMatches<'a>,
+    name: &str,
+) -> Result<Vec<&'a str>, AllocError>
     ensures { IfOk result
-        (λ texts. map (λ text. text.now) texts.items ≡ settings_of (rows_of (found_of given.now))) }
+        (λ texts. map (λ text. text.now) texts.items ≡ texts_of name.now (rows_of (found_of given.now))) }
 {
-    match given.get_strs("set") {
+    match given.get_strs(name) {
         Some(texts) => Vec::from_slice(alloc, texts),
         None => Ok(Vec::new(alloc)),
     }
@@ -195,6 +220,7 @@ fn asked<'a>(matches: &ArgMatches<'a>) -> Option<CommandLine<'a>>
     let (name, given) = matches.subcommand()?;
     match name {
         "script" => script_line(given),
+        "coverage" => coverage_line(given),
         "try" => try_line(given),
         "chart" => chart_line(given),
         "page" => page_line(given),
@@ -229,14 +255,23 @@ fn form_of(given: &ArgMatches<'_>) -> Option<ScriptForm>
     let vcd = is_given(given, "vcd");
     let from_murphi = is_given(given, "from-murphi");
     let json = is_given(given, "json");
-    match (echo, explain, beside, vcd, from_murphi, json) {
-        (_, _, false, false, false, false) => Some(ScriptForm::Answers { echo, explain }),
-        (false, _, true, false, false, false) => Some(ScriptForm::Beside { explain }),
-        (false, false, false, true, false, false) => Some(ScriptForm::Waves),
-        (false, false, false, false, true, false) => Some(ScriptForm::FromMurphi),
-        (false, false, false, false, false, true) => Some(ScriptForm::Json),
+    let coverage = is_given(given, "coverage");
+    match (echo, explain, beside, vcd, from_murphi, json, coverage) {
+        (_, _, false, false, false, false, false) => Some(ScriptForm::Answers { echo, explain }),
+        (false, _, true, false, false, false, false) => Some(ScriptForm::Beside { explain }),
+        (false, false, false, true, false, false, false) => Some(ScriptForm::Waves),
+        (false, false, false, false, true, false, false) => Some(ScriptForm::FromMurphi),
+        (false, false, false, false, false, true, false) => Some(ScriptForm::Json),
+        (false, false, false, false, false, false, true) => Some(ScriptForm::Coverage),
         _ => None,
     }
+}
+
+fn coverage_line<'a>(given: &ArgMatches<'a>) -> Option<CommandLine<'a>>
+    ensures { IfSome result (IsLine (codes "coverage") (rows_of (found_of given.now))) }
+{
+    let _first = file_of(given)?;
+    Some(CommandLine::Coverage)
 }
 
 fn try_line<'a>(given: &ArgMatches<'a>) -> Option<CommandLine<'a>>

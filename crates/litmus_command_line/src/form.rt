@@ -9,6 +9,8 @@ pub enum ScriptForm {
     Waves,
     /// Each command with its answer and what happened as a value of JSON.
     Json,
+    /// How often each cell of the protocol's tables was met, and no answers.
+    Coverage,
     /// The file is a model checker's trace. It isn't run, but printed as a script.
     FromMurphi,
 }

@@ -2,10 +2,10 @@
 //!
 //! [`read_line`] reads what the program's words ask for. Where it answers a [`CommandLine`], each of its parts is what
 //! `clap` reads of the words, as specs/CommandLine.antt says. [`read_settings`] reads the settings of a line that asks for
-//! rows, of which there may be any number.
+//! rows, and [`read_files`] the files of one that asks for a sum, of which there may be any number.
 #![tactic(auto)]
 
-pub use command_line::{CommandLine, read_line, read_settings};
+pub use command_line::{CommandLine, read_files, read_line, read_settings};
 pub use export::ModelCores;
 pub use form::ScriptForm;
 pub use table::Table;

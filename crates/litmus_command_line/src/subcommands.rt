@@ -15,9 +15,11 @@ ghost use Rattle.litmus_command_line.specs.CommandLine.{
   chart_app,
   check_app,
   cores_rule,
+  coverage_app,
   few_or_none_rule,
   few_rule,
   file_rule,
+  files_rule,
   flag_rule,
   form_rule,
   generate_app,
@@ -64,6 +66,7 @@ pub(crate) fn lockup<'a>(alloc: Global) -> Result<Command<'a>, AllocError>
     ensures { IfOk result (λ c. IsLockup (app_of c)) }
 {
     let program = with(Ok(top(alloc)), script(alloc));
+    let program = with(program, coverage(alloc));
     let program = with(program, prompt(alloc));
     let program = with(program, chart(alloc));
     let program = with(program, page(alloc));
@@ -189,13 +192,40 @@ fn script<'a>(alloc: Global) -> Result<Command<'a>, AllocError>
             &["echo", "explain", "beside", "vcd"],
         ),
     );
-    and_made(
+    let command = and_made(
         command,
         lone_flag(
             alloc,
             "json",
             "Print each command with its answer and what happened as a value of JSON",
             &["echo", "explain", "beside", "vcd", "from-murphi"],
+        ),
+    );
+    and_made(
+        command,
+        lone_flag(
+            alloc,
+            "coverage",
+            "Print how often each cell of the protocol's tables was met, in place of answers",
+            &["echo", "explain", "beside", "vcd", "from-murphi", "json"],
+        ),
+    )
+}
+
+fn coverage<'a>(alloc: Global) -> Result<Command<'a>, AllocError>
+    ensures { IfOk result (Reads coverage_app) }
+{
+    let command = begin(
+        alloc,
+        "coverage",
+        "Adds what 'script --coverage' counted of several scripts",
+        help::COVERAGE,
+    );
+    and(
+        command,
+        files(
+            alloc,
+            "What it printed, in one file or more; - is standard input",
         ),
     )
 }
@@ -641,6 +671,13 @@ fn file<'a>(alloc: Global, help: &'a str) -> Arg<'a>
     ensures { HasRule file_rule result }
 {
     Arg::new(alloc, "FILE").help(help).required(true)
+}
+
+/// .. or more than one.
+fn files<'a>(alloc: Global, help: &'a str) -> Arg<'a>
+    ensures { HasRule files_rule result }
+{
+    file(alloc, help).action(ArgAction::Append)
 }
 
 /// .. which may be left out.

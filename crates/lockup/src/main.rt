@@ -12,9 +12,10 @@ use head::head_of;
 use litmus::{
     CommandLine, Form, JudgeForm, Limits, OutcomeForm, ScriptForm, Seeds, Size, SweepFault,
     TextKind, hint, line_count, page_schedule, page_walk, read_line, run_beside, run_chart,
-    run_check, run_check_explained, run_check_json, run_explained, run_export, run_json, run_judge,
-    run_litmus_as, run_page, run_programs, run_queries, run_script, run_svg, run_table,
-    run_table_cells, run_test, run_trace, run_walk, run_waves, write_schedule, write_walk,
+    run_check, run_check_explained, run_check_json, run_coverage, run_explained, run_export,
+    run_json, run_judge, run_litmus_as, run_page, run_programs, run_queries, run_script, run_svg,
+    run_table, run_table_cells, run_test, run_trace, run_walk, run_waves, write_schedule,
+    write_walk,
 };
 use litmus_text::TextFault;
 use painted::Painted;
@@ -32,6 +33,7 @@ use std::{env, fs, io};
 use unforbidden::tell_unforbidden;
 use unused::tell_unused;
 
+mod coverage;
 mod head;
 mod painted;
 mod progress;
@@ -126,6 +128,7 @@ where
                 seed,
             },
         ) => workload::run(rt, people, name, Size { cores, size, seed }),
+        Ok(CommandLine::Coverage) => coverage::run(rt, people, words),
         Ok(line) => answer(rt, line, people),
         Err(error) => show(rt, people, &error),
     }
@@ -307,7 +310,8 @@ fn file_of<'a>(line: CommandLine<'a>) -> Option<&'a str> {
         | CommandLine::Check { file, .. }
         | CommandLine::Judge { file, .. } => Some(file),
         CommandLine::Try { file } => file,
-        CommandLine::Generate { .. }
+        CommandLine::Coverage
+        | CommandLine::Generate { .. }
         | CommandLine::Table { .. }
         | CommandLine::Export { .. }
         | CommandLine::Queries { .. } => None,
@@ -437,8 +441,10 @@ where
             let limits = Limits { outstanding, pace };
             run_programs(alloc, input, limits, seed, form, shown, out)
         }
-        // These are printed by `rows::run` and `workload::run`.
-        CommandLine::Sweep { .. } | CommandLine::Generate { .. } => Ok(REFUSED),
+        // These are printed by `rows::run`, `workload::run` and `coverage::run`.
+        CommandLine::Sweep { .. } | CommandLine::Generate { .. } | CommandLine::Coverage => {
+            Ok(REFUSED)
+        }
         CommandLine::Check { json: true, .. } => run_check_json(alloc, input, out),
         CommandLine::Check { explain: true, .. } => run_check_explained(alloc, input, out),
         CommandLine::Check { .. } => run_check(alloc, input, out),
@@ -532,6 +538,7 @@ fn write_run<W: Write>(
         ScriptForm::Beside { explain } => run_beside(alloc, input, explain, out),
         ScriptForm::Waves => run_waves(alloc, input, out),
         ScriptForm::Json => run_json(alloc, input, out),
+        ScriptForm::Coverage => run_coverage(alloc, input, out),
         ScriptForm::FromMurphi => run_trace(input, out),
     }
 }

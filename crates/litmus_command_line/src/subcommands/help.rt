@@ -32,6 +32,20 @@ docs/EXAMPLES.md (scripts to begin with)
 
 Example: lockup script examples/first_add.txt";
 
+/// What stands below the options of `coverage`.
+pub const COVERAGE: &str = "\
+The sum is printed as 'lockup script --coverage' prints the counts of one script: a line for each cell
+of the protocol's tables, with how often it was met, as far as one of the files lists it:
+
+  cache IS_D Inv blocked 2
+  directory S PutM I 0
+
+A file may hold several such outputs, one behind another.
+
+Documents: docs/TEXTS.md (coverage), docs/PROTOCOL.md (the tables)
+
+Example: lockup coverage first.txt second.txt | grep ' 0$'";
+
 /// What stands below the options of `try`.
 pub const TRY: &str = "\
 Lines come from standard input, a terminal or a pipe, and each is answered at once. A line is one of

@@ -10,6 +10,13 @@ returns-in-script c =
     let found = c.in_ok-name.ensures.rows in
     asked_of c.args.matches.now (codes "script") rows c.script_line.result named found c.script_line.ensures
 
+pub returns-in-coverage : goal.returns-in-coverage
+returns-in-coverage c =
+    let named = rw c.in-coverage.is at c.in_ok-name.ensures.name in
+    let rows = rows_of (found_of c.in_ok-name.given.now) in
+    let found = c.in_ok-name.ensures.rows in
+    asked_of c.args.matches.now (codes "coverage") rows c.coverage_line.result named found c.coverage_line.ensures
+
 pub returns-in-try : goal.returns-in-try
 returns-in-try c =
     let named = rw c.in-try.is at c.in_ok-name.ensures.name in

@@ -7,26 +7,28 @@ pub returns : goal.returns
 returns c =
     let script = with_known (Ok c.top.result) c.script.result c.with-program.result _ _ c.top.ensures c.script.ensures
     c.with-program.ensures in
-    let prompt = with_known c.with-program.result c.prompt.result c.with-program-2.result _ _ script c.prompt.ensures
+    let coverage = with_known c.with-program.result c.coverage.result c.with-program-2.result _ _ script c.coverage.ensures
     c.with-program-2.ensures in
-    let chart = with_known c.with-program-2.result c.chart.result c.with-program-3.result _ _ prompt c.chart.ensures
+    let prompt = with_known c.with-program-2.result c.prompt.result c.with-program-3.result _ _ coverage c.prompt.ensures
     c.with-program-3.ensures in
-    let page = with_known c.with-program-3.result c.page.result c.with-program-4.result _ _ chart c.page.ensures
+    let chart = with_known c.with-program-3.result c.chart.result c.with-program-4.result _ _ prompt c.chart.ensures
     c.with-program-4.ensures in
-    let litmus = with_known c.with-program-4.result c.litmus.result c.with-program-5.result _ _ page c.litmus.ensures
+    let page = with_known c.with-program-4.result c.page.result c.with-program-5.result _ _ chart c.page.ensures
     c.with-program-5.ensures in
-    let walk = with_known c.with-program-5.result c.walk.result c.with-program-6.result _ _ litmus c.walk.ensures
+    let litmus = with_known c.with-program-5.result c.litmus.result c.with-program-6.result _ _ page c.litmus.ensures
     c.with-program-6.ensures in
-    let run = with_known c.with-program-6.result c.run.result c.with-program-7.result _ _ walk c.run.ensures
+    let walk = with_known c.with-program-6.result c.walk.result c.with-program-7.result _ _ litmus c.walk.ensures
     c.with-program-7.ensures in
-    let generate = with_known c.with-program-7.result c.generate.result c.with-program-8.result _ _ run c.generate.ensures
+    let run = with_known c.with-program-7.result c.run.result c.with-program-8.result _ _ walk c.run.ensures
     c.with-program-8.ensures in
-    let test = with_known c.with-program-8.result c.test.result c.with-program-9.result _ _ generate c.test.ensures
+    let generate = with_known c.with-program-8.result c.generate.result c.with-program-9.result _ _ run c.generate.ensures
     c.with-program-9.ensures in
-    let check = with_known c.with-program-9.result c.check.result c.with-program-10.result _ _ test c.check.ensures
+    let test = with_known c.with-program-9.result c.test.result c.with-program-10.result _ _ generate c.test.ensures
     c.with-program-10.ensures in
-    let judge = with_known c.with-program-10.result c.judge.result c.with-program-11.result _ _ check c.judge.ensures
+    let check = with_known c.with-program-10.result c.check.result c.with-program-11.result _ _ test c.check.ensures
     c.with-program-11.ensures in
-    let table = with_table c.with-program-11.result c.table.result c.with-program-12.result _ (λ names. refl) judge c.table.ensures
+    let judge = with_known c.with-program-11.result c.judge.result c.with-program-12.result _ _ check c.judge.ensures
     c.with-program-12.ensures in
-    with_export c.with-program-12.result c.export.result c.with.result table c.export.ensures c.with.ensures
+    let table = with_table c.with-program-12.result c.table.result c.with-program-13.result _ (λ names. refl) judge c.table.ensures
+    c.with-program-13.ensures in
+    with_export c.with-program-13.result c.export.result c.with.result table c.export.ensures c.with.ensures

@@ -1,0 +1,48 @@
+-- How often the cells were met: a count for each of them, in their order, or none where it isn't listed.
+use Rattle.std.specs.Prelude.{ℕ, ◌+◌, Bool, true, false, not, List, [], ◌∷◌, Option, Some, None, slice_index_or, slice_set}
+use Rattle.std.specs.Prelude.{if◌then◌else◌, unwrap_or}
+use Rattle.cache_table.specs.declared.state.CopyState.TheVariants as copy_states
+use Rattle.directory_table.specs.declared.state.DirState.TheVariants as dir_states
+use Rattle.protocol_coverage.specs.declared.cell.Cell.{Cell}
+use Rattle.protocol_coverage.specs.declared.cell.Outcome.{Outcome}
+use Rattle.protocol_coverage.specs.declared.cell.Outcome.TheVariants as outcomes
+use Rattle.protocol_coverage.specs.declared.cell.TableEvent.{TableEvent}
+use Rattle.protocol_coverage.specs.declared.cell.TableEvent.TheVariants as events
+use Rattle.protocol_coverage.specs.declared.cell.TableState.{TableState}
+use Rattle.protocol_coverage.specs.declared.cell.TableState.TheVariants as states
+
+-- ---- the cells of a setting
+
+-- With the exclusive state alone there are E and Data-E, and a reader may become the owner, to which requests are
+-- forwarded; a line that nobody has is given to a reader as the only copy then, and else to share.
+abbrev pub is_met_at : Bool → TableState → TableEvent → Outcome → Bool
+is_met_at exclusive (states.Cache copy_states.E) event outcome = exclusive
+is_met_at exclusive state events.DataE outcome = exclusive
+is_met_at exclusive (states.Cache copy_states.IS_D) events.FwdGetS outcome = exclusive
+is_met_at exclusive (states.Cache copy_states.IS_D) events.FwdGetM outcome = exclusive
+is_met_at exclusive (states.Directory dir_states.I) events.GetS (outcomes.To (states.Directory dir_states.M)) = exclusive
+is_met_at exclusive (states.Directory dir_states.I) events.GetS outcome = not exclusive
+is_met_at exclusive state event outcome = true
+
+abbrev pub is_met : Bool → Cell → Bool
+is_met exclusive cell = is_met_at exclusive cell.state cell.event cell.outcome
+
+-- what is listed of a cell before the first step: those of a setting, or none
+abbrev pub listed : Option Bool → Cell → Option ℕ
+listed None cell = None
+listed (Some exclusive) cell = if is_met exclusive cell then Some 0 else None
+
+-- ---- counts
+
+-- how often the cell with this number was met
+abbrev pub had : List (Option ℕ) → ℕ → ℕ
+had counts cell = unwrap_or (slice_index_or counts cell None) 0
+
+-- .. so many times more
+abbrev pub counted : List (Option ℕ) → ℕ → ℕ → List (Option ℕ)
+counted counts cell times = slice_set counts cell (Some (had counts cell + times))
+
+-- each of these cells was met once more
+abbrev pub counted_all : List (Option ℕ) → List ℕ → List (Option ℕ)
+counted_all counts [] = counts
+counted_all counts (cell ∷ cells) = counted_all (counted counts cell 1) cells

@@ -1,0 +1,59 @@
+//! What notes the cells that steps met.
+ghost use Rattle.std.specs.Prelude.{◌≡◌, IfErr, OnOk};
+ghost use Rattle.litmus_script.specs.Play.{IsOfRun};
+ghost use Rattle.script_coverage.specs.Trail.{Notes};
+
+use super::cell::{cell_of, cell_of_delivery};
+use litmus_script::Machine;
+use litmus_text::{Statement, TextFault};
+use mshr_file::MissFile;
+use protocol_coverage::Cell;
+use script_explained::{DeliveryStep, Step, StepWriter};
+use stats_report::write_text;
+use std::io::Write;
+
+/// Writes of each step the number of the cell that it met, in one byte.
+#[derive(Clone, Copy)]
+pub(crate) struct Noting;
+
+impl StepWriter for Noting {
+    ghost use Rattle.script_coverage.specs.Trail.{NotesNext, NotesStep};
+
+    ghost writes = { λ _. NotesStep };
+
+    ghost writes_next = { λ _. NotesNext };
+
+    fn write<F: MissFile, W: Write>(
+        &self,
+        _machine: &Machine<F>,
+        _statement: &Statement<'_>,
+        step: &Step,
+        out: &mut W,
+    ) -> Result<(), TextFault> {
+        note(cell_of(step), out)
+    }
+
+    fn write_next<F: MissFile, W: Write>(
+        &self,
+        _machine: &Machine<F>,
+        _number: usize,
+        delivery: DeliveryStep,
+        out: &mut W,
+    ) -> Result<(), TextFault> {
+        note(cell_of_delivery(&delivery), out)
+    }
+}
+
+/// Writes the number of a cell, if there is one.
+fn note<W: Write>(cell: Option<Cell>, out: &mut W) -> Result<(), TextFault>
+    ensures noted { OnOk result (Notes cell (W.contents out.old) (W.contents out.new)) }
+    ensures fault { IfErr result IsOfRun }
+{
+    let Some(number) = cell.and_then(|cell| cell.number()) else {
+        return Ok(());
+    };
+    match write_text(out, &[number]) {
+        Ok(()) => Ok(()),
+        Err(_) => Err(TextFault::CannotWrite),
+    }
+}

@@ -1,6 +1,6 @@
 -- Lists that are made or gone through one by one.
 use Rattle.std.proofs.Common.{◌≡◌, ◌∙◌, ℕ, zero, suc, ◌+◌, ◌<◌, ◌≤◌, List, [], ◌∷◌, ◌++◌, ap, append-nil, append_assoc, arith, drop, get_or, inl, inr, length}
-use Rattle.std.proofs.Common.{Some, map, subst, sym}
+use Rattle.std.proofs.Common.{Some, map, rules, subst, sym}
 use Rattle.std.proofs.lemmas.Bool.{cases_lt}
 use Rattle.std.proofs.lemmas.List.{at_drop_all, at_drop_more}
 use Rattle.std.specs.Prelude.{Option, slice_get}
@@ -32,6 +32,17 @@ pub found_at : {X : Type 0} (xs : List X) (k : ℕ) (x d : X) → k < length xs 
 found_at [] k x d within is = absurd (omega arith)
 found_at (y ∷ ys) zero x d within is = ap Some is
 found_at (y ∷ ys) (suc k) x d within is = found_at ys k x d (omega arith) is
+
+pub here_is : {X : Type 0} (xs : List X) (k : ℕ) (x d : X) → slice_get xs k ≡ Some x → get_or xs k d ≡ x
+here_is [] k x d is = search rules
+here_is (y ∷ ys) zero x d is = search rules
+here_is (y ∷ ys) (suc k) x d is = here_is ys k x d is
+
+-- nothing stands behind the last
+pub none_behind : {X : Type 0} (xs : List X) (k : ℕ) (x : X) → slice_get xs k ≡ Some x → k < length xs
+none_behind [] k x is = search rules
+none_behind (y ∷ ys) zero x is = omega arith
+none_behind (y ∷ ys) (suc k) x is = let below = none_behind ys k x is in omega arith
 
 -- where it isn't among the first, nor the next
 pub none_up_to : (P : ℕ → Type 0) (n : ℕ) → ((k : ℕ) → k < n → ¬ P k) → ¬ P n → (k : ℕ) → k < n + 1 → ¬ P k

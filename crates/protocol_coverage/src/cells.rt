@@ -118,7 +118,7 @@ impl Cell {
         ensures none { IfNone result ((number : ℕ) → ¬ (slice_get CELLS number ≡ Some self)) }
     {
         for number in 0..CELLS.len() {
-            if CELLS[number] == self {
+            if CELLS[number].is(&self) {
                 return Some(number as u8);
             }
         }

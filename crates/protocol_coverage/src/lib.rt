@@ -15,3 +15,4 @@ mod cell;
 mod cells;
 mod coverage;
 mod read;
+mod same;

@@ -110,7 +110,7 @@ fn is_head(words: &[&[u8]]) -> bool
 }
 
 /// The number of the cell that the words name, and how often they say that it was met.
-#[tactic(auto, using(litmus_text::proofs::FormLemmas::wrong_count, crate::proofs::Reading::count_of_names, crate::proofs::Reading::no_names, crate::proofs::Reading::no_number))]
+#[tactic(auto, using(litmus_text::proofs::FormLemmas::wrong_count, crate::proofs::Reading::count_of_names, crate::proofs::Reading::no_number))]
 fn count_of(words: &[&[u8]]) -> Result<(usize, u64), CoverageFault>
     ensures counts { IfOk result (λ count. IsCount (map (λ w. w.now) words.now) count.0 count.1) }
     ensures refused { IfErr result (λ fault. IsNoCount (map (λ w. w.now) words.now)) }
@@ -125,9 +125,13 @@ fn count_of(words: &[&[u8]]) -> Result<(usize, u64), CoverageFault>
         event,
         outcome,
     };
-    let cell = names.number().ok_or(CoverageFault::NotACell)?;
-    let times = parse_number(times).ok_or(CoverageFault::BadNumber)?;
-    Ok((cell, times))
+    let Some(cell) = names.number() else {
+        return Err(CoverageFault::NotACell);
+    };
+    match parse_number(times) {
+        Some(times) => Ok((cell, times)),
+        None => Err(CoverageFault::BadNumber),
+    }
 }
 
 /// The words that name a cell.

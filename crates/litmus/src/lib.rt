@@ -29,10 +29,7 @@
 //! what comes of it can't be written, is a [`TextFault`]; [`hint`] says what a reader of it may want to know.
 #![tactic(auto)]
 
-pub use check::{run_check, run_check_explained, run_check_json};
 pub use export::{run_export, run_queries};
-pub use hints::{TextKind, hint};
-pub use judge::{JudgeForm, run_judge};
 pub use litmus_chart::{line_count, run_chart, run_svg};
 pub use litmus_command_line::{
     CommandLine, ModelCores, ScriptForm, Table, read_files, read_line, read_settings,
@@ -59,15 +56,12 @@ pub use script_test::run_test;
 pub use script_waves::run_waves;
 pub use table::{run_table, run_table_cells};
 pub use tests::{run_litmus, run_litmus_as, run_walk, write_walk};
+pub use text_hints::{TextKind, hint};
+pub use text_verdicts::{JudgeForm, run_check, run_check_explained, run_check_json, run_judge};
 pub use trace_check::{Reason, Verdict, check_trace};
 
-mod check;
-mod contradiction;
 mod export;
-mod hints;
-mod judge;
 mod legend;
 mod pages;
 mod table;
 mod tests;
-mod wrong_entry;

@@ -6,9 +6,6 @@
 //! start any.
 #![tactic(auto)]
 
-use clap::Error;
-use clap::error::ErrorKind;
-use head::head_of;
 use litmus::{
     CommandLine, Form, JudgeForm, Limits, OutcomeForm, ScriptForm, Seeds, Size, SweepFault,
     TextKind, hint, line_count, page_schedule, page_walk, read_line, run_beside, run_chart,
@@ -18,42 +15,24 @@ use litmus::{
     write_walk,
 };
 use litmus_text::TextFault;
-use painted::Painted;
-use progress::{Counted, Shown};
-use rows::Rows;
+use lockup_front::{
+    Counted, Painted, People, REFUSED, Rows, Shown, add_coverage, answer_lines, complain, head_of,
+    print_rows, print_workload, read, report, show, tell_unforbidden, tell_unused,
+};
 use std::alloc::Global;
 use std::env::VarError;
-use std::fmt::Display;
-use std::io::{BufWriter, IsTerminal, Read, Write};
+use std::io::{BufWriter, IsTerminal, Write};
 use std::process::ExitCode;
 use std::rt::{Env, Files};
 use std::sync::Wait;
 use std::thread::Threads;
-use std::{env, fs, io};
-use unforbidden::tell_unforbidden;
-use unused::tell_unused;
-
-mod coverage;
-mod head;
-mod painted;
-mod progress;
-mod prompt;
-mod rows;
-mod unforbidden;
-mod unused;
-mod workload;
-
-/// The exit status where the command line or the file is refused.
-const REFUSED: u8 = 2;
+use std::{env, io};
 
 /// What is said of a script to be tested that wants no answer.
 const NO_TEST: &str = "no answer is wanted: this is no test";
 
 /// How an answer is wanted.
 const HOW_TO_WANT: &str = "a wanted answer follows '=' at the end of its command's line";
-
-/// The name of a file that stands for standard input.
-const STANDARD_INPUT: &str = "-";
 
 fn main(rt: HostRuntime) -> ExitCode {
     let is_watched = rt.stderr().is_terminal();
@@ -73,16 +52,6 @@ fn may_color<R: Env + AllocGlobal>(rt: &R) -> bool {
         Ok(value) => value.is_empty(),
         Err(error) => error == VarError::NotPresent,
     }
-}
-
-/// Who is at the other end: whether somebody watches, to whom a long run shows how far it is, or types, to whom a prompt
-/// shows that it waits; and whether answers and errors have colors.
-#[derive(Clone, Copy)]
-struct People {
-    watch: bool,
-    type_lines: bool,
-    color_answers: bool,
-    color_errors: bool,
 }
 
 /// Does what the command line asks for, and answers the exit status.
@@ -118,7 +87,7 @@ where
         ) => {
             let limits = Limits { outstanding, pace };
             let rows = Rows { file, limits, json };
-            rows::run(rt, people, words, seeds_of(seed, seeds), rows)
+            print_rows(rt, people, words, seeds_of(seed, seeds), rows)
         }
         Ok(
             CommandLine::Generate {
@@ -127,8 +96,8 @@ where
                 size,
                 seed,
             },
-        ) => workload::run(rt, people, name, Size { cores, size, seed }),
-        Ok(CommandLine::Coverage) => coverage::run(rt, people, words),
+        ) => print_workload(rt, people, name, Size { cores, size, seed }),
+        Ok(CommandLine::Coverage) => add_coverage(rt, people, words),
         Ok(line) => answer(rt, line, people),
         Err(error) => show(rt, people, &error),
     }
@@ -318,16 +287,6 @@ fn file_of<'a>(line: CommandLine<'a>) -> Option<&'a str> {
     }
 }
 
-/// Reads a file, or standard input where its name is `-`.
-fn read<R: Files + Input + AllocGlobal>(rt: &R, file: &str) -> io::Result<Vec<u8>> {
-    if file != STANDARD_INPUT {
-        return fs::read(rt, file);
-    }
-    let mut input = Vec::new(rt.alloc());
-    rt.reader().read_to_end(&mut input)?;
-    Ok(input)
-}
-
 /// Prints what the command line asks for, also the answers before a fault.
 fn print_answers<R>(
     rt: &R,
@@ -370,7 +329,7 @@ where
     };
     match line {
         CommandLine::Script { form, .. } => write_run(alloc, input, form, out),
-        CommandLine::Try { .. } => prompt::run(rt, input, people.type_lines, out),
+        CommandLine::Try { .. } => answer_lines(rt, input, people.type_lines, out),
         CommandLine::Chart {
             svg: false,
             line: None,
@@ -441,7 +400,7 @@ where
             let limits = Limits { outstanding, pace };
             run_programs(alloc, input, limits, seed, form, shown, out)
         }
-        // These are printed by `rows::run`, `workload::run` and `coverage::run`.
+        // These are printed by `print_rows`, `print_workload` and `add_coverage`.
         CommandLine::Sweep { .. } | CommandLine::Generate { .. } | CommandLine::Coverage => {
             Ok(REFUSED)
         }
@@ -541,39 +500,4 @@ fn write_run<W: Write>(
         ScriptForm::Coverage => run_coverage(alloc, input, out),
         ScriptForm::FromMurphi => run_trace(input, out),
     }
-}
-
-/// Shows what the reader of the command line has to say: help, or why it was refused.
-fn show<R: Print + Eprint>(rt: &R, people: People, error: &Error) -> u8 {
-    if error.kind() == ErrorKind::OutOfMemory {
-        complain(rt, people, TextFault::NoMemory);
-        return TextFault::NoMemory.status();
-    }
-    match error.print(rt) {
-        Ok(()) if !error.use_stderr() => 0,
-        Ok(()) => REFUSED,
-        Err(_) => {
-            complain(rt, people, TextFault::CannotWrite);
-            TextFault::CannotWrite.status()
-        }
-    }
-}
-
-/// Reports that input can't be read: for want of memory, or else as the text says.
-fn report<R: Eprint>(rt: &R, people: People, error: &io::Error, text: impl Display + Drop) -> u8 {
-    if error.kind() == io::ErrorKind::OutOfMemory {
-        complain(rt, people, TextFault::NoMemory);
-        return TextFault::NoMemory.status();
-    }
-    complain(rt, people, text);
-    REFUSED
-}
-
-/// Writes one line to standard error. Where that fails nobody is left to tell.
-fn complain<R: Eprint>(rt: &R, people: People, text: impl Display + Drop) {
-    let _ = if people.color_errors {
-        eprintln!(rt; "\x1b[1;31mlockup:\x1b[0m {text}")
-    } else {
-        eprintln!(rt; "lockup: {text}")
-    };
 }

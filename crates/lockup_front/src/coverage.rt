@@ -1,0 +1,85 @@
+//! The sum of what runs of scripts counted.
+
+use super::files::read;
+use super::people::{People, REFUSED, complain, report, show};
+use litmus_command_line::read_files;
+use litmus_text::TextFault;
+use protocol_coverage::Coverage;
+use script_coverage::print_coverage;
+use std::io::{self, BufWriter, Write};
+use std::rt::Files;
+
+/// Adds the counts in the files that the command line names, and prints the sum. Returns the exit status.
+pub fn add_coverage<R>(rt: &R, people: People, words: &[String]) -> u8
+where
+    R: Files + Input + AllocGlobal + Print + Eprint,
+{
+    match read_files(rt.alloc(), words) {
+        Ok(files) => run_files(rt, people, files.as_slice()),
+        Err(error) => show(rt, people, &error),
+    }
+}
+
+fn run_files<R>(rt: &R, people: People, files: &[&str]) -> u8
+where
+    R: Files + Input + AllocGlobal + Print + Eprint,
+{
+    match Coverage::new(rt.alloc(), None) {
+        Ok(mut coverage) => {
+            if let Err(status) = add_files(rt, people, files, &mut coverage) {
+                return status;
+            }
+            end(rt, people, print(rt, &coverage))
+        }
+        Err(_) => end(rt, people, Err(TextFault::NoMemory)),
+    }
+}
+
+/// Returns the exit status, and complains of a fault.
+fn end<R: Eprint>(rt: &R, people: People, printed: Result<(), TextFault>) -> u8 {
+    match printed {
+        Ok(()) => 0,
+        Err(fault) => {
+            complain(rt, people, fault);
+            fault.status()
+        }
+    }
+}
+
+/// Adds the counts in these files. At Err, what is wrong was said, and this is the exit status.
+fn add_files<R>(rt: &R, people: People, files: &[&str], coverage: &mut Coverage) -> Result<(), u8>
+where
+    R: Files + Input + AllocGlobal + Eprint,
+{
+    for file in files {
+        add_file(rt, people, file, coverage)?;
+    }
+    Ok(())
+}
+
+fn add_file<R>(rt: &R, people: People, file: &str, coverage: &mut Coverage) -> Result<(), u8>
+where
+    R: Files + Input + AllocGlobal + Eprint,
+{
+    match read(rt, file) {
+        Ok(text) => match coverage.read(text.as_slice()) {
+            Ok(()) => Ok(()),
+            Err(unread) => {
+                complain(rt, people, format_args!("{file}: {unread}"));
+                Err(REFUSED)
+            }
+        },
+        Err(error) => Err(report(rt, people, &error, format_args!("cannot read {file}"))),
+    }
+}
+
+fn print<R: AllocGlobal + Print>(rt: &R, coverage: &Coverage) -> Result<(), TextFault> {
+    let Ok(mut out) = BufWriter::new(rt.alloc(), io::writer(rt)) else {
+        return Err(TextFault::NoMemory);
+    };
+    let written = print_coverage(coverage, &mut out);
+    match out.flush() {
+        Ok(()) => written,
+        Err(_) => Err(TextFault::CannotWrite),
+    }
+}

@@ -1,0 +1,31 @@
+//! What the subcommands of the program share, and those that print by themselves.
+//!
+//! - [`People`] are who is at the other end: [`complain`], [`report`] and [`show`] tell them what is wrong, [`Shown`] how
+//!   far a long run is, and [`Painted`] colors their answers. [`read`] reads a file, or standard input.
+//! - [`print_rows`], [`print_workload`], [`add_coverage`] and [`answer_lines`] each do what a subcommand asks for.
+//! - [`tell_unused`] and [`tell_unforbidden`] say of a text that was run what its output doesn't.
+#![tactic(auto)]
+
+pub use coverage::add_coverage;
+pub use files::{STANDARD_INPUT, read};
+pub use head::head_of;
+pub use painted::Painted;
+pub use people::{People, REFUSED, complain, report, show};
+pub use progress::{Counted, Shown};
+pub use prompt::answer_lines;
+pub use rows::{Rows, print_rows};
+pub use unforbidden::tell_unforbidden;
+pub use unused::tell_unused;
+pub use workload::print_workload;
+
+mod coverage;
+mod files;
+mod head;
+mod painted;
+mod people;
+mod progress;
+mod prompt;
+mod rows;
+mod unforbidden;
+mod unused;
+mod workload;

@@ -1,0 +1,60 @@
+//! Who is at the other end, and what they are told.
+
+use clap::Error;
+use clap::error::ErrorKind;
+use litmus_text::TextFault;
+use std::fmt::Display;
+use std::io;
+
+/// The exit status where the command line or the file is refused.
+pub const REFUSED: u8 = 2;
+
+/// Who is at the other end: whether somebody watches, to whom a long run shows how far it is, or types, to whom a prompt
+/// shows that it waits; and whether answers and errors have colors.
+#[derive(Clone, Copy)]
+pub struct People {
+    pub watch: bool,
+    pub type_lines: bool,
+    pub color_answers: bool,
+    pub color_errors: bool,
+}
+
+/// Shows what the reader of the command line has to say: help, or why it was refused.
+pub fn show<R: Print + Eprint>(rt: &R, people: People, error: &Error) -> u8 {
+    if error.kind() == ErrorKind::OutOfMemory {
+        complain(rt, people, TextFault::NoMemory);
+        return TextFault::NoMemory.status();
+    }
+    match error.print(rt) {
+        Ok(()) if !error.use_stderr() => 0,
+        Ok(()) => REFUSED,
+        Err(_) => {
+            complain(rt, people, TextFault::CannotWrite);
+            TextFault::CannotWrite.status()
+        }
+    }
+}
+
+/// Reports that input can't be read: for want of memory, or else as the text says.
+pub fn report<R: Eprint>(
+    rt: &R,
+    people: People,
+    error: &io::Error,
+    text: impl Display + Drop,
+) -> u8 {
+    if error.kind() == io::ErrorKind::OutOfMemory {
+        complain(rt, people, TextFault::NoMemory);
+        return TextFault::NoMemory.status();
+    }
+    complain(rt, people, text);
+    REFUSED
+}
+
+/// Writes one line to standard error. Where that fails nobody is left to tell.
+pub fn complain<R: Eprint>(rt: &R, people: People, text: impl Display + Drop) {
+    let _ = if people.color_errors {
+        eprintln!(rt; "\x1b[1;31mlockup:\x1b[0m {text}")
+    } else {
+        eprintln!(rt; "lockup: {text}")
+    };
+}

@@ -1,0 +1,161 @@
+//! The rows of a sweep.
+
+use super::files::read;
+use super::people::{People, complain, report, show};
+use super::progress::{Counted, Shown};
+use super::unused::tell_unused_settings;
+use litmus_command_line::read_settings;
+use litmus_text::TextFault;
+use program_sweep::{RowFault, RowForm, Seeds, Sweep, SweepFault, program_name, run_sweep};
+use program_text::Limits;
+use std::alloc::Global;
+use std::io::{self, BufWriter, Write};
+use std::rt::Files;
+use std::thread::Threads;
+
+/// What the command line says of rows beside their settings and seeds.
+#[derive(Clone, Copy)]
+pub struct Rows<'a> {
+    pub file: &'a str,
+    pub limits: Limits,
+    pub json: bool,
+}
+
+/// Runs the programs in a file once for each row that the command line asks for, and prints the rows. Returns the exit
+/// status.
+pub fn print_rows<R>(
+    rt: &R,
+    people: People,
+    words: &[String],
+    seeds: Result<Seeds, SweepFault<'_>>,
+    rows: Rows<'_>,
+) -> u8
+where
+    R: Files + Input + AllocGlobal + Print + Eprint + Threads + Sync,
+{
+    match read_settings(rt.alloc(), words) {
+        Ok(settings) => run_settings(rt, people, settings.as_slice(), seeds, rows),
+        Err(error) => show(rt, people, &error),
+    }
+}
+
+fn run_settings<R>(
+    rt: &R,
+    people: People,
+    settings: &[&str],
+    seeds: Result<Seeds, SweepFault<'_>>,
+    rows: Rows<'_>,
+) -> u8
+where
+    R: Files + Input + AllocGlobal + Print + Eprint + Threads + Sync,
+{
+    match read_sweep(rt.alloc(), settings, seeds, rows.limits) {
+        Ok(sweep) => read_and_run(rt, people, &sweep, rows),
+        Err(fault) => {
+            complain(rt, people, fault);
+            fault.status()
+        }
+    }
+}
+
+fn read_and_run<R>(rt: &R, people: People, sweep: &Sweep<'_>, rows: Rows<'_>) -> u8
+where
+    R: Files + Input + AllocGlobal + Print + Eprint + Threads + Sync,
+{
+    let file = rows.file;
+    match read(rt, file) {
+        Ok(input) => run_input(rt, people, input.as_slice(), sweep, rows),
+        Err(error) => report(rt, people, &error, format_args!("cannot read {file}")),
+    }
+}
+
+fn run_input<R>(rt: &R, people: People, input: &[u8], sweep: &Sweep<'_>, rows: Rows<'_>) -> u8
+where
+    R: Files + Input + AllocGlobal + Print + Eprint + Threads + Sync,
+{
+    let form = if rows.json {
+        RowForm::Json
+    } else {
+        RowForm::Csv
+    };
+    match write_rows(rt, people, input, sweep, rows.file, form) {
+        Ok(()) => {
+            let settings = sweep.settings.as_slice();
+            tell_unused_settings(rt, people, input, settings, rows.limits);
+            0
+        }
+        Err(fault) => complain_of(rt, people, sweep, fault),
+    }
+}
+
+fn read_sweep<'a>(
+    alloc: Global,
+    settings: &[&'a str],
+    seeds: Result<Seeds, SweepFault<'a>>,
+    limits: Limits,
+) -> Result<Sweep<'a>, SweepFault<'a>> {
+    Sweep::read(alloc, settings, seeds?, limits)
+}
+
+/// Prints the rows, also those before a fault.
+fn write_rows<R>(
+    rt: &R,
+    people: People,
+    input: &[u8],
+    sweep: &Sweep<'_>,
+    file: &str,
+    form: RowForm,
+) -> Result<(), RowFault>
+where
+    R: Files + Input + AllocGlobal + Print + Eprint + Threads + Sync,
+{
+    let program = program_name(rt.alloc(), form, file)?;
+    let Ok(mut out) = BufWriter::new(rt.alloc(), io::writer(rt)) else {
+        return Err(RowFault::NoMemory);
+    };
+    let mut shown = Shown {
+        rt,
+        is_watched: people.watch,
+        counted: Counted::Rows,
+    };
+    let ran = run_sweep(
+        rt.alloc(),
+        rt,
+        input,
+        sweep,
+        program.as_slice(),
+        form,
+        &mut shown,
+        &mut out,
+    );
+    match out.flush() {
+        Ok(()) => ran,
+        Err(_) => Err(RowFault::CannotWrite),
+    }
+}
+
+/// Complains of a fault, and returns the exit status.
+fn complain_of<R>(rt: &R, people: People, sweep: &Sweep<'_>, fault: RowFault) -> u8
+where
+    R: AllocGlobal + Eprint,
+{
+    match fault {
+        RowFault::Row { row, refusal } => {
+            let mut name = String::new(rt.alloc());
+            if sweep.name(row, &mut name).is_err() {
+                complain(rt, people, TextFault::NoMemory);
+                return TextFault::NoMemory.status();
+            }
+            complain(rt, people, format_args!("{name}: {refusal}"));
+            refusal.status()
+        }
+        RowFault::CannotWrite => {
+            complain(rt, people, TextFault::CannotWrite);
+            TextFault::CannotWrite.status()
+        }
+        RowFault::NoMemory => {
+            complain(rt, people, TextFault::NoMemory);
+            TextFault::NoMemory.status()
+        }
+    }
+}

@@ -1,0 +1,24 @@
+//! A litmus test that forbids nothing.
+
+use super::people::{People, complain};
+use litmus_text::Statements;
+
+/// Tells on standard error that a test which was run forbids nothing, so that none of its outcomes could be forbidden.
+pub fn tell_unforbidden<R: Eprint>(rt: &R, people: People, input: &[u8]) {
+    if !forbids(input) {
+        complain(
+            rt,
+            people,
+            "nothing is forbidden: the test has no line 'forbid'",
+        );
+    }
+}
+
+fn forbids(input: &[u8]) -> bool {
+    for statement in Statements::of(input) {
+        if statement.words.as_slice().first() == Some(&b"forbid".as_slice()) {
+            return true;
+        }
+    }
+    false
+}

@@ -1,0 +1,125 @@
+//! Lines of a text of programs that change nothing of its run, and settings of a sweep that change nothing of its runs.
+
+use super::people::{People, complain};
+use litmus_text::{Lines, Words, parse_number, value_named};
+use program_sweep::Setting;
+use program_text::Limits;
+
+/// What bounds the accesses of a core that wait. Where one is under way at a time, none finds a bound.
+static BOUNDS: [(&[u8], &str); 3] = [
+    (b"mshrs", "mshrs"),
+    (b"targets", "targets"),
+    (b"misses", "misses"),
+];
+
+static OUTSTANDING: [(&[u8], ()); 1] = [(b"outstanding", ())];
+
+static PACE: [(&[u8], ()); 1] = [(b"pace", ())];
+
+static CORE: [(&[u8], ()); 1] = [(b"core", ())];
+
+/// Why what bounds waiting accesses changes nothing.
+const SINGLE: &str = "each core has one access under way";
+
+/// Tells on standard error which lines of a text that was run changed nothing: those that bound what waits of a core,
+/// where it has one access under way at a time, and an `outstanding` or a `pace` in whose place another number was given.
+pub fn tell_unused<R: Eprint>(rt: &R, people: People, input: &[u8], given: Limits) {
+    let is_single = is_single(input, given.outstanding);
+    let mut number: u64 = 0;
+    for line in Lines::of(input) {
+        number = number.saturating_add(1);
+        let Some(word) = Words::of_line(line).next() else {
+            continue;
+        };
+        if value_named(&CORE, word).is_some() {
+            return;
+        }
+        if given.is_limited() && value_named(&OUTSTANDING, word).is_some() {
+            tell(
+                rt,
+                people,
+                number,
+                "outstanding",
+                "--outstanding stands in its place",
+            );
+        }
+        if given.is_paced() && value_named(&PACE, word).is_some() {
+            tell(rt, people, number, "pace", "--pace stands in its place");
+        }
+        if is_single {
+            tell_bound(rt, people, number, word);
+        }
+    }
+}
+
+/// Tells on standard error the same of a text that is swept, and of the settings that vary. If one of these is
+/// `outstanding`, each line may change something, and nothing is told.
+pub fn tell_unused_settings<R: Eprint>(
+    rt: &R,
+    people: People,
+    input: &[u8],
+    settings: &[Setting<'_>],
+    given: Limits,
+) {
+    if varies_outstanding(settings) {
+        return;
+    }
+    tell_unused(rt, people, input, given);
+    if !is_single(input, given.outstanding) {
+        return;
+    }
+    for setting in settings {
+        let name = setting.name;
+        if value_named(&BOUNDS, name.as_bytes()).is_some() {
+            tell_setting(rt, people, name);
+        }
+    }
+}
+
+fn varies_outstanding(settings: &[Setting<'_>]) -> bool {
+    settings.iter().any(|setting| value_named(&OUTSTANDING, setting.name.as_bytes()).is_some())
+}
+
+fn tell_bound<R: Eprint>(rt: &R, people: People, number: u64, word: &[u8]) {
+    if let Some(name) = value_named(&BOUNDS, word) {
+        tell(rt, people, number, name, SINGLE);
+    }
+}
+
+fn tell_setting<R: Eprint>(rt: &R, people: People, name: &str) {
+    complain(
+        rt,
+        people,
+        format_args!("--set {name} changes nothing: {SINGLE}"),
+    );
+}
+
+fn tell<R: Eprint>(rt: &R, people: People, number: u64, name: &str, why: &str) {
+    complain(
+        rt,
+        people,
+        format_args!("line {number}: {name} changes nothing: {why}"),
+    );
+}
+
+// Whether each core has at most one access under way.
+fn is_single(input: &[u8], given: Option<u64>) -> bool {
+    given.or(said(input)).unwrap_or(1) <= 1
+}
+
+// How many accesses of a core may be under way by the text, if it says so.
+fn said(input: &[u8]) -> Option<u64> {
+    for line in Lines::of(input) {
+        let mut words = Words::of_line(line);
+        let Some(word) = words.next() else {
+            continue;
+        };
+        if value_named(&CORE, word).is_some() {
+            return None;
+        }
+        if value_named(&OUTSTANDING, word).is_some() {
+            return parse_number(words.next()?);
+        }
+    }
+    None
+}

@@ -1,7 +1,8 @@
 //! What notes the cells that steps met.
-ghost use Rattle.std.specs.Prelude.{◌≡◌, IfErr, OnOk};
+ghost use Rattle.std.specs.Prelude.{IfErr, OnOk};
+ghost use Rattle.std.specs.Io.KnownBytes.{Appends};
 ghost use Rattle.litmus_script.specs.Play.{IsOfRun};
-ghost use Rattle.script_coverage.specs.Trail.{Notes};
+ghost use Rattle.script_coverage.specs.Trail.{IsNumberOf, Notes};
 
 use super::cell::{cell_of, cell_of_delivery};
 use litmus_script::Machine;
@@ -49,10 +50,26 @@ fn note<W: Write>(cell: Option<Cell>, out: &mut W) -> Result<(), TextFault>
     ensures noted { OnOk result (Notes cell (W.contents out.old) (W.contents out.new)) }
     ensures fault { IfErr result IsOfRun }
 {
-    let Some(number) = cell.and_then(|cell| cell.number()) else {
-        return Ok(());
-    };
-    match write_text(out, &[number]) {
+    match number_of(cell) {
+        Some(number) => write_bytes(&[number], out),
+        None => write_bytes(&[], out),
+    }
+}
+
+fn number_of(cell: Option<Cell>) -> Option<u8>
+    ensures { IsNumberOf cell result }
+{
+    match cell {
+        Some(cell) => cell.number(),
+        None => None,
+    }
+}
+
+fn write_bytes<W: Write>(bytes: &[u8], out: &mut W) -> Result<(), TextFault>
+    ensures written { OnOk result (Appends (W.contents out.old) (W.contents out.new) bytes.now) }
+    ensures fault { IfErr result IsOfRun }
+{
+    match write_text(out, bytes) {
         Ok(()) => Ok(()),
         Err(_) => Err(TextFault::CannotWrite),
     }

@@ -1,0 +1,10 @@
+use Rattle.std.proofs.Common.{inr}
+use Rattle.script_coverage.proofs.run.trail_on.Goals as goal
+
+pub returns : goal.returns
+returns g c =
+    let stopped = rw (c.in_ok-machine.ensures.config, c.new-trail.ensures.items) at c.in-Err.ensures.fault in
+    record {
+      played = tt;
+      fault = inr (_, inr (record { start = _; fresh = c.in_ok-machine.ensures.new; stopped = stopped }));
+    }

@@ -53,7 +53,7 @@ class Differs(AssertionError):
 
 
 def differs_text(field: str, wanted: object, came: object) -> str:
-    return f"{field} is {shown(came)}, and {shown(wanted)} is wanted"
+    return f"{field} is {shown(wanted)}, and the design's is {shown(came)}"
 
 
 def shown(value: object) -> str:

@@ -68,7 +68,9 @@ def of_record(where: str, wanted: Any, came: object) -> Iterator[Difference]:
         raise TypeError(f"{where} of the design, {came!r}, has none of the fields {', '.join(wanted._fields)}")
     for name in fields_of(wanted):
         if hasattr(came, name):
-            yield from of_value(f"{where}.{name}", getattr(wanted, name), getattr(came, name))
+            its = getattr(came, name)
+            # sharers are a set
+            yield from of_value(f"{where}.{name}", getattr(wanted, name), sorted(its) if name == "sharers" and its else its)
 
 
 def fields_of(wanted: Any) -> Sequence[str]:

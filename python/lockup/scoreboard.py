@@ -7,7 +7,7 @@ from .looks import differences
 from .machine import Config, Machine
 from .names import Answer, Channel, Delivered, Evicted, Op, Refused, Stall
 from .texts import (
-    Hand, Issue, deliver_command, deliver_text, evict_text, hand_text, issue_command, issue_text, known, member, row_of,
+    Hand, Issue, deliver_command, deliver_text, evict_text, hand_text, issue_command, issue_text, known, member, moved_text, row_of,
 )
 from .values import Delivery, Issued, Receipt
 
@@ -21,7 +21,7 @@ class Scoreboard:
     """A machine of its own, of which each call is made that a design was asked, and what the design answered.
 
     A call makes the same of the machine, and returns what that answered. Where the design answered otherwise it raises
-    `Differs`. What a design doesn't count is None in its answer, and isn't compared; nor are replies to stores.
+    `Differs`, and from then on each call raises that and makes nothing. What a design doesn't count is None in its answer, and isn't compared; nor are replies to stores.
 
     >>> with Scoreboard(cores=2) as board:
     ...     board.expect_issue(0, 0, Op.LOAD, 8, answered=(Answer.PENDING, None, None))
@@ -30,7 +30,7 @@ class Scoreboard:
     ...     except Differs as differs:
     ...         print(differs)
     <pending 0>
-    deliver req 1 0: answer is BLOCKED, and MOVED is wanted
+    deliver req 1 0: answer is MOVED, and the design's is BLOCKED
     """
 
     def __init__(self, config: Optional[Config] = None, init: Optional[Mapping[int, int]] = None,
@@ -38,6 +38,7 @@ class Scoreboard:
         """Makes the machine as `Machine` does. Where calls aren't recorded there is no script, and a long run takes no
         memory for it."""
         self._machine = Machine(config, init, counters, **fields)
+        self._differs: Optional[Differs] = None
         # what stands in the script, and behind a command its answer
         self._rows: Optional[List[Tuple[str, str]]] = None
         self._last = ""
@@ -70,7 +71,7 @@ class Scoreboard:
     def expect_issue(self, core: int, tag: int, op: int, word: int, operand: int = 0, replacement: int = 0, *,
                      answered: Issue) -> Issued:
         """A core asked for a word: `answered` is what became of that, its number (or its reason), and its reply."""
-        wanted = self._machine.issue(core, tag, op, word, operand, replacement)
+        wanted = self._open().issue(core, tag, op, word, operand, replacement)
         self._note(issue_command(core, tag, op, word, operand, replacement), issue_text(wanted))
         answer, number, reply = answered
         fields: List[Field] = [("answer", wanted.answer, member(Answer, answer))]
@@ -86,14 +87,14 @@ class Scoreboard:
 
     def expect_evict(self, core: int, line: int, *, answered: int) -> Evicted:
         """A core was asked to evict its copy of a line."""
-        wanted = self._machine.evict(core, line)
+        wanted = self._open().evict(core, line)
         self._note(f"evict {known(core)} {known(line)}", evict_text(wanted))
         self._agree([("answer", wanted, member(Evicted, answered))], evict_text(answered))
         return wanted
 
     def expect_deliver(self, channel: int, line: int, core: int = 0, sender: int = 0, *, answered: int) -> Delivered:
         """The message in front of a channel was to be delivered."""
-        wanted = self._machine.deliver(channel, line, core, sender)
+        wanted = self._open().deliver(channel, line, core, sender)
         self._note(deliver_command(channel, line, core, sender), deliver_text(wanted))
         self._agree([("answer", wanted, member(Delivered, answered))], deliver_text(answered))
         return wanted
@@ -101,7 +102,7 @@ class Scoreboard:
     def expect_next(self, slice: int = 0, channel: int = Channel.ANY, *, answered: Next) -> Delivery:
         """The next message of a slice that can be moved was to be delivered: `answered` is the answer, and where a message
         was moved its channel, line, core and sender."""
-        wanted = self._machine.deliver_next(slice, channel)
+        wanted = self._open().deliver_next(slice, channel)
         self._note_next(slice, wanted, answered)
         fields: List[Field] = [("answer", wanted.answer, member(Delivered, answered[0]))]
         if wanted.channel is not None:
@@ -131,7 +132,7 @@ class Scoreboard:
 
     def expect_hand(self, core: int, slice: int = 0, *, answered: Optional[Hand]) -> Optional[Receipt]:
         """A core's next reply of a slice was to be handed out: `answered` is its number, its tag and its value, or None."""
-        wanted = self._machine.hand(core, slice)
+        wanted = self._open().hand(core, slice)
         self._note(f"hand {known(core)} {known(slice)}", hand_text(wanted))
         if wanted is None or answered is None:
             fields: List[Field] = [("handed", wanted is not None, answered is not None)]
@@ -146,10 +147,10 @@ class Scoreboard:
         `copy`, `directory`, `registers`, `targets`, `writebacks`, `ways`, `messages`, `counts`, `message_counts`, `word` and
         `quiet`. What it lacks, and what has no meaning, isn't compared."""
         chosen = range(self._machine.config.lines) if lines is None else list(lines)
-        for field, wanted, came in differences(self._machine, design, chosen):
-            differs = Differs(self._last, field, wanted, came)
-            self._write(f"# {differs}")
-            raise differs
+        for field, wanted, came in differences(self._open(), design, chosen):
+            self._differs = Differs(self._last, field, wanted, came)
+            self._write(f"# {self._differs}")
+            raise self._differs
 
     def script(self, answers: bool = False) -> str:
         """Returns the calls so far as a script, with answers as one of `lockup test`, which wants what the machine answered."""
@@ -158,6 +159,12 @@ class Scoreboard:
         return "".join(f"{row_of(row, answer) if answer and answers else row}\n" for row, answer in self._rows)
 
     # ---- what the calls share
+
+    def _open(self) -> Machine:
+        """Returns the machine, unless the design has differed."""
+        if self._differs is not None:
+            raise self._differs
+        return self._machine
 
     def _write(self, row: str, answer: str = "") -> None:
         if self._rows is not None:
@@ -173,7 +180,8 @@ class Scoreboard:
         for field, wanted, came in fields:
             if came is not None and wanted != came:
                 self._write(f"# the design answered: {answered}")
-                raise Differs(self._last, field, wanted, came)
+                self._differs = Differs(self._last, field, wanted, came)
+                raise self._differs
 
 
 def named_of(told: Next) -> List[object]:
@@ -188,7 +196,7 @@ def named_of(told: Next) -> List[object]:
 def moved_by(told: Next) -> Optional[str]:
     """Returns the command that moves the same message, if one was moved."""
     answer, channel, line, core, sender = told
-    return deliver_command(channel, line, core, sender) if answer == Delivered.MOVED and channel is not None else None
+    return moved_text(channel, line, core, sender) if answer == Delivered.MOVED and channel is not None else None
 
 
 def next_text(told: Next) -> str:

@@ -1,7 +1,7 @@
 """Scripts as data: read, played on a machine or on what answers like one, and written again (docs/TEXTS.md)."""
 from typing import Callable, Dict, Iterator, List, NamedTuple, Optional, Protocol, Sequence, Tuple
 
-from .errors import OutOfRange
+from .errors import OutOfRange, error_of
 from .library import number as number_of
 from .machine import FIELDS, Config, Machine
 from .names import Channel, Delivered, Misses, Op, Policy
@@ -62,13 +62,16 @@ class Script(NamedTuple):
         for number, line in enumerate(text.split("\n"), 1):
             words = [] if line.startswith("#") else line.partition("=")[0].split()
             try:
-                if words and (commands or not configures(words, fields, init, counters)) and words[0] not in LOOKS:
+                if words and (commands or not configures(words, fields, init, counters)) and not is_look(words):
                     commands.append(command_of(words))
             except (ValueError, LookupError, TypeError):
                 raise ValueError(f"line {number}: not a command: {line.strip()}") from None
         return cls(Config(**fields), tuple(init), tuple(counters), tuple(commands))
 
     def make(self) -> Machine:
+        for code, words in ((109, [word for word, _ in self.init]), (110, list(self.counters))):
+            if any(one >= next for one, next in zip(words, words[1:])):
+                raise error_of(code)
         return Machine(self.config, dict(self.init), self.counters)
 
     def head(self) -> str:
@@ -106,13 +109,25 @@ def configures(words: Sequence[str], fields: Dict[str, int], init: List[Tuple[in
         counters.append(number(*rest))
     elif name in SETTINGS:
         fields[name] = SETTINGS[name].index(rest[0])
-        if rest[1:]:
+        if rest[0] == "random":
             fields["seed"] = number(*rest[1:])
-    elif name in FIELDS:
+        elif rest[1:]:
+            raise ValueError(name)
+    elif name in FIELDS and name != "seed":
         fields[name] = number(*rest)
     else:
         return False
     return True
+
+
+def is_look(words: Sequence[str]) -> bool:
+    """Whether a line only shows something, in several lines."""
+    name, *rest = words
+    if name == "log":
+        number(*rest)
+    elif name in LOOKS and rest:
+        raise ValueError(name)
+    return name in LOOKS
 
 
 def number(word: str) -> int:

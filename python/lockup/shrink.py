@@ -207,7 +207,7 @@ class Shrinker:
     def fails(self, script: Script, may_refuse: bool = True) -> bool:
         """Whether a script has a fault. One that no machine can play has none, nor one that the design may refuse."""
         text = script.text()
-        if text in self.sound:
+        if not script.commands or text in self.sound:
             return False
         self.tried += 1
         try:

@@ -3,7 +3,7 @@ from enum import IntEnum
 from typing import Optional, Tuple, Type
 
 from .library import number as number_of
-from .names import Answer, Delivered, Evicted, Op, Refused, Stall
+from .names import Answer, Channel, Delivered, Evicted, Op, Refused, Stall
 from .values import place_of
 
 # an answer to an access: what became of it, its number or reason, and its reply
@@ -30,6 +30,11 @@ def known(number: Optional[int]) -> str:
     return "?" if number is None else str(number_of(number))
 
 
+def told(number: object) -> str:
+    """Returns a number of an answer, which may be any: what a design answers may be wrong."""
+    return "?" if number is None else str(number)
+
+
 # ---- commands
 
 def issue_command(core: int, tag: int, op: int, word: int, operand: int = 0, replacement: int = 0) -> str:
@@ -41,6 +46,13 @@ def deliver_command(channel: int, line: int, core: int = 0, sender: int = 0) -> 
     return f"deliver {place_of(channel, number_of(line), number_of(core), number_of(sender))}"
 
 
+def moved_text(channel: int, line: object, core: object, sender: object) -> str:
+    """Returns which message a design says that it moved."""
+    if channel in Channel._value2member_map_:
+        return f"deliver {place_of(channel, line, core, sender)}"  # type: ignore[arg-type]
+    return f"channel {channel} {line} {core} {sender}"
+
+
 # ---- answers
 
 def reason_text(answer: int, reason: Optional[int]) -> str:
@@ -48,32 +60,32 @@ def reason_text(answer: int, reason: Optional[int]) -> str:
     kind = Stall if answer == Answer.STALL else Refused
     found = None if reason is None else member(kind, reason)
     name = found.name.title().replace("_", "") if isinstance(found, IntEnum) else "?"
-    return f"{known(reason)} {name}"
+    return f"{told(reason)} {name}"
 
 
-def issue_text(told: Issue) -> str:
-    answer, number, reply = told
+def issue_text(became: Issue) -> str:
+    answer, number, reply = became
     if answer == Answer.DONE:
-        return f"done {known(number)} reply {known(reply)}"
+        return f"done {told(number)} reply {told(reply)}"
     if answer == Answer.PENDING:
-        return f"pending {known(number)}"
+        return f"pending {told(number)}"
     if answer in (Answer.STALL, Answer.REFUSED):
         return f"{Answer(answer).name.lower()} {reason_text(answer, number)}"
     return f"answer {answer}"
 
 
-def evict_text(told: int) -> str:
-    return named(Evicted, told)
+def evict_text(answer: int) -> str:
+    return named(Evicted, answer)
 
 
-def deliver_text(told: int) -> str:
-    return named(Delivered, told)
+def deliver_text(answer: int) -> str:
+    return named(Delivered, answer)
 
 
-def hand_text(told: Optional[Hand]) -> str:
-    if told is None:
+def hand_text(handed: Optional[Hand]) -> str:
+    if handed is None:
         return "none"
-    number, tag, reply = map(known, told)
+    number, tag, reply = map(told, handed)
     return f"receipt {number} tag {tag} reply {reply}"
 
 

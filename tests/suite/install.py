@@ -33,7 +33,7 @@ def tree() -> Iterator[tuple[Path, Path]]:
             if path.is_file():
                 shutil.copy(path, top)
         for name in ("tools", "docs", "examples", "include", "python", "systemverilog"):
-            shutil.copytree(ROOT / name, top / name)
+            shutil.copytree(ROOT / name, top / name, ignore=shutil.ignore_patterns("__pycache__"))
         shutil.copy(program(), top / "crates/lockup/out/lockup")
         yield top, Path(room)
 

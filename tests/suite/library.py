@@ -134,12 +134,12 @@ def test_first_page(language: str) -> None:
 def test_an_unproved_library() -> None:
     """What tools/library --unproved builds has the functions of the header, and does what the first page says."""
     needs("rt", "cc", "nm")
-    made = run([ROOT / "tools/library", "--unproved"], timeout=None)
-    same("tools/library --unproved", (0, ""), (made.status, made.err))
-    built, linked = map(Path, made.out.split())
-    named = {line.split()[-1] for line in run(["nm", "-D", "--defined-only", linked]).out.splitlines()}
-    same("the functions", set(re.findall(r"^uint32_t (lockup_\w+)\(", read(HEADER), re.M)), named)
     with tempfile.TemporaryDirectory() as room:
+        made = run([ROOT / "tools/library", "--unproved", room], timeout=None)
+        same("tools/library --unproved", (0, ""), (made.status, made.err))
+        built, linked = map(Path, made.out.split())
+        named = {line.split()[-1] for line in run(["nm", "-D", "--defined-only", linked]).out.splitlines()}
+        same("the functions", set(re.findall(r"^uint32_t (lockup_\w+)\(", read(HEADER), re.M)), named)
         for library in (built, linked):
             words = ["cc", FIRST, f"-I{INCLUDE}", library, f"-Wl,-rpath,{linked.parent}", "-o", f"{room}/first"]
             same("the compiler", (0, "", ""), tuple(run(words)))

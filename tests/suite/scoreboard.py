@@ -215,12 +215,40 @@ def test_script() -> None:
     want_tested(board.script(answers=True), 6)
 
 
+def test_after_a_difference() -> None:
+    """.. each call raises it again, and makes nothing. What a design answers may be no number of 64 bits."""
+    library = module()
+    with library.Scoreboard(cores=1) as board:
+        board.expect_issue(0, 0, 2, 0, 1, answered=(1, 0, None))
+        board.machine.settle()
+        first = raised(library, lambda: board.expect_hand(0, answered=(0, 0, 1 << 64)))
+        same("text", f"hand 0 0: reply is 0, and the design's is {1 << 64}", str(first))
+        script = board.script()
+        for call in (lambda: board.expect_issue(0, 1, 0, 0, answered=(0, 0, 0)), lambda: board.compare(SimpleNamespace()),
+                     lambda: board.expect_next(answered=(2, None, 0, 0, 0))):
+            same("again", True, raised(library, call) is first)
+        same("script", script, board.script())
+    with library.Scoreboard(cores=1) as board:
+        differs = raised(library, lambda: board.expect_next(answered=(0, 9, 1, 2, 3)))
+        same("no such channel", "answer is NOTHING, and the design's is MOVED", str(differs).partition(": ")[2])
+
+
+def test_sharers_are_a_set() -> None:
+    with module().Scoreboard(cores=9) as board:
+        for core in (8, 1):
+            board.machine.load(core, 0, 0)
+            board.machine.settle()
+        entry = board.machine.directory(0)
+        board.compare(SimpleNamespace(directory=lambda line: entry._replace(sharers={8, 1}) if line == 0
+                                      else board.machine.directory(line)))
+
+
 def test_without_a_record() -> None:
     library = module()
     with library.Scoreboard(record=False) as board:
         board.expect_issue(0, 0, 0, 0, answered=(1, None, None))
         differs = raised(library, lambda: board.expect_issue(0, 0, 0, 0, answered=(0, 0, 0)))
-        same("text", "issue 0 0 load 0: answer is DONE, and REFUSED is wanted", str(differs))
+        same("text", "issue 0 0 load 0: answer is REFUSED, and the design's is DONE", str(differs))
         try:
             board.script(answers=True)
         except ValueError as error:
@@ -413,6 +441,13 @@ def spoiled(machine: Any, name: str, place: tuple) -> Iterator[tuple[str, Any, b
 NAMING = {"registers": ("line",), "messages": ("channel", "line", "core", "sender")}
 
 
+def again(library: ModuleType, board: Any, call: Any) -> Any:
+    """Returns the difference that a call raises, and lets the board go on."""
+    differs = raised(library, call)
+    board._differs = None
+    return differs
+
+
 def test_looks() -> None:
     """Each field of each look is compared where it means something, and only there."""
     library = module()
@@ -427,25 +462,25 @@ def test_looks() -> None:
                     board.compare(design)
                     continue
                 told += 1
-                differs = raised(library, lambda: board.compare(design))
+                differs = again(library, board, lambda: board.compare(design))
                 want(differs.field.startswith(at), f"{at} {field}: {differs}")
                 ends = "" if field in NAMING.get(name, ()) else f".{field}" if field else ""
                 want(differs.field.endswith(ends), f"{at} {field}: {differs}")
                 want(ends or "." not in differs.field, f"{at} {field}: {differs}")
         want(told > 100 and quiet > 20, f"{told} fields with a meaning, and {quiet} without")
         same("a line that isn't asked for", None, board.compare(SimpleNamespace(state=lambda *its: 99), lines=[]))
-        differs = raised(library, lambda: board.compare(SimpleNamespace(writebacks=lambda *its: [3])))
+        differs = again(library, board, lambda: board.compare(SimpleNamespace(writebacks=lambda *its: [3])))
         same("written back", ("writebacks(0, 0)", (0,), (3,)), (differs.field, differs.wanted, differs.came))
-        differs = raised(library, lambda: board.compare(SimpleNamespace(ways=lambda *its: [3]), lines=[2]))
+        differs = again(library, board, lambda: board.compare(SimpleNamespace(ways=lambda *its: [3]), lines=[2]))
         same("ways", ("ways(0, 2)", (2,), (3,)), (differs.field, differs.wanted, differs.came))
-        differs = raised(library, lambda: board.compare(SimpleNamespace(registers=lambda *its: [])))
+        differs = again(library, board, lambda: board.compare(SimpleNamespace(registers=lambda *its: [])))
         same("registers", ("registers(0, 0)", ("line 1", "line 3"), ()), (differs.field, differs.wanted, differs.came))
-        same("quiet", "quiet", raised(library, lambda: board.compare(SimpleNamespace(quiet=True))).field)
+        same("quiet", "quiet", again(library, board, lambda: board.compare(SimpleNamespace(quiet=True))).field)
         same("no word where it isn't quiet", None, board.compare(SimpleNamespace(word=lambda word: 99)))
     with library.Scoreboard(lines=1, init={3: 8}) as board:
-        differs = raised(library, lambda: board.compare(SimpleNamespace(ways=lambda *its: [4])))
+        differs = again(library, board, lambda: board.compare(SimpleNamespace(ways=lambda *its: [4])))
         same("no ways", ("ways(0, 0)", (), (4,)), (differs.field, differs.wanted, differs.came))
-        differs = raised(library, lambda: board.compare(SimpleNamespace(word=lambda word: 9 * (word == 3))))
+        differs = again(library, board, lambda: board.compare(SimpleNamespace(word=lambda word: 9 * (word == 3))))
         same("word", ("", "word(3)", 8, 9), (differs.call, differs.field, differs.wanted, differs.came))
-        same("text", "before any call: word(3) is 9, and 8 is wanted", str(differs))
+        same("text", "before any call: word(3) is 8, and the design's is 9", str(differs))
         same("script", f"# {differs}", board.script(answers=True).splitlines()[-1])

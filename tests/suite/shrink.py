@@ -280,9 +280,10 @@ print(*ANSWERS, sep='\\n')
 """
 
 
-def shrunk(*words: str | Path, text: str | None = None) -> Ran:
+def shrunk(*words: str | Path, text: str | None = None, cache: str | None = None) -> Ran:
     environment = {**os.environ, "LOCKUP_LIBRARY": str(shared()), "PYTHONPATH": str(ROOT / "python")}
-    return run([sys.executable, "-m", "lockup.shrink", "--answers", *words], text, env=environment)
+    environment |= {"XDG_CACHE_HOME": cache} if cache else {}
+    return run([sys.executable, "-m", "lockup.shrink", "--answers", *words], text, env=environment, timeout=None)
 
 
 FILE = "# a comment\ncores 1\n\nissue 0 0 load 8 = pending 0\n= nothing\nwaiting\npump 5\nhand 0 0\nissue 0 0 load 8\n"
@@ -339,8 +340,7 @@ def want_short(kind: str, bug: str, found: list[str], cache: str) -> None:
     """The lock step finds a counterexample, whose short script fails too."""
     script, short = Path(cache, "counterexample.txt"), Path(cache, "short.txt")
     same("status of the lock step", 1, cosim(kind, bug, *(it.format(script) for it in found), cache=cache).status)
-    os.environ["XDG_CACHE_HOME"] = cache
-    ran = shrunk(script, "--against", f"{COSIM / kind} {bug} --script {{}}", "--to", short)
+    ran = shrunk(script, "--against", f"{COSIM / kind} {bug} --script {{}}", "--to", short, cache=cache)
     want(ran.status == 0 and not ran.out, ran.err)
 
     def answers(text: str) -> list[str]:
@@ -366,7 +366,19 @@ def test_systemverilog(row: str) -> None:
     shared()
     needs("verilator", "c++", "make")
     with tempfile.TemporaryDirectory() as room:
-        want_short("systemverilog", row, ["+script={}"], room)
+        want_short("systemverilog", row, ["+answers", "+script={}"], room)
+
+
+REFUSED = [("init 0 1\ninit 0 2\n", "config 9 init"), ("init 1 1\ninit 0 2\n", "config 9 init"), ("counter 1\ncounter 1\n", "config 10 counters"),
+           ("seed 7\n", "line 1: not a command: seed 7"), ("exclusive on 7\n", "line 1: not a command: exclusive on 7"),
+           ("policy lru 3\n", "line 1: not a command: policy lru 3"), ("policy random\n", "line 1: not a command: policy random"),
+           ("waiting all\n", "line 1: not a command: waiting all")]
+
+
+@each(lambda: [(text, text, said) for text, said in REFUSED])
+def test_what_no_script_has(_: str, text: str, said: str) -> None:
+    ran = shrunk("-", text=f"{text}issue 0 0 load 0\n")
+    same("status and error", (2, f"lockup-shrink: {said}\n"), (ran.status, ran.err))
 
 
 def test_players_refuse() -> None:

@@ -18,12 +18,12 @@ CALLS = 2000
 NONE, ALL, CHANGES = "012"
 
 
-def compiled(source: Path, dialect: str, made: str) -> str:
+def compiled(source: Path, dialect: str, made: str, *options: str) -> str:
     """Compiles a program over the shared object."""
     kind, library = ("c++", shared()) if "+" in dialect else ("cc", shared())
     needs(kind)
-    words = [kind, "-x", "c++" if "+" in dialect else "c", f"-std={dialect}", *STRICT, source, "-x", "none", library]
-    same("the compiler", (0, "", ""), tuple(run([*words, f"-Wl,-rpath,{library.parent}", "-o", f"{made}.new"])))
+    words = [kind, "-x", "c++" if "+" in dialect else "c", f"-std={dialect}", *STRICT, *options, source, "-x", "none"]
+    same("the compiler", (0, "", ""), tuple(run([*words, library, f"-Wl,-rpath,{library.parent}", "-o", f"{made}.new"])))
     os.rename(f"{made}.new", made)
     return made
 
@@ -85,6 +85,15 @@ def judge_difference(where: str, ran: Ran) -> None:
 def test_agreement(dialect: str) -> None:
     for seed in SEEDS:
         judge_agreement(seed, run([twin(dialect), str(seed), str(CALLS), ALL]))
+
+
+@seconds(5)
+@each(lambda: ["c89", "c++98"])
+def test_unchecked(dialect: str) -> None:
+    """The headers stand without lockup_null.h."""
+    with tempfile.TemporaryDirectory() as room:
+        made = compiled(TWIN, dialect, f"{room}/twin", "-DLOCKUP_UNCHECKED")
+        judge_agreement(0, run([made, "0", str(CALLS), ALL]))
 
 
 @seconds(5)

@@ -94,6 +94,20 @@ def test_wrong_row(row: str) -> None:
         judge_difference(cosim("systemverilog", row, f"+script={script}"), script)
 
 
+@seconds(60)
+def test_wrong_answers() -> None:
+    """Answers alone find row 2 too, and the caches answer the script otherwise than the program."""
+    needs_verilator()
+    with tempfile.TemporaryDirectory() as room:
+        script = Path(room, "counterexample.txt")
+        ran = cosim("systemverilog", "2", "+answers", f"+script={script}")
+        judge_difference(ran, script)
+        want(ran.out.startswith("call "), f"a state differs: {ran.out}")
+        wanted, told = lockup("script", script).out.splitlines(), cosim("systemverilog", "2", "--script", script)
+        same("status and answers", (0, len(wanted)), (told.status, len(told.out.splitlines())))
+        want(wanted[-1] != told.out.splitlines()[-1], f"both answer {wanted[-1]}")
+
+
 # by row, what the history comes to, with its times and without. A copy that is stale for a while is one that was read
 # earlier, as far as a word's accesses tell, until a store is known to have ended before. A row that lets another message
 # wait changes no answer.

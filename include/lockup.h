@@ -543,6 +543,15 @@ uint32_t lockup_judge_free(lockup_judge *judge);
 }
 #endif
 
+/* for the functions of the headers beside this one. C of 1990 has no word for it */
+#if defined(__cplusplus) || (defined(__STDC_VERSION__) && __STDC_VERSION__ >= 199901L)
+#define LOCKUP_INLINE static inline
+#elif defined(__GNUC__)
+#define LOCKUP_INLINE static __inline__
+#else
+#define LOCKUP_INLINE static
+#endif
+
 #ifndef LOCKUP_UNCHECKED
 #include "lockup_null.h"
 #endif

@@ -3,15 +3,6 @@
 #ifndef LOCKUP_NULL_H
 #define LOCKUP_NULL_H
 
-/* C of 1990 has no word for it */
-#if defined(__cplusplus) || (defined(__STDC_VERSION__) && __STDC_VERSION__ >= 199901L)
-#define LOCKUP_INLINE static inline
-#elif defined(__GNUC__)
-#define LOCKUP_INLINE static __inline__
-#else
-#define LOCKUP_INLINE static
-#endif
-
 #ifdef __cplusplus
 extern "C" {
 #endif

@@ -39,10 +39,11 @@
 #include <string.h>
 #include "lockup_names.h"
 
-/* given by a design in place of a number that it doesn't have: it isn't compared. Values of words always are. */
+/* given by a design in place of a number that it doesn't have: it isn't compared. Values of words always are, and so are
+ * sharers, of which it is core 63. Where it is how many places a list has, they aren't compared. */
 #define LOCKUP_UNSEEN ((uint64_t)1 << 63)
 /* room for each of the texts below */
-#define LOCKUP_TEXT 512
+#define LOCKUP_TEXT 1024
 
 /* which calls are kept for the script: none, all, or those that changed something, and the last one */
 enum { LOCKUP_RECORD_NONE = 0, LOCKUP_RECORD_ALL = 1, LOCKUP_RECORD_CHANGES = 2 };
@@ -268,7 +269,7 @@ LOCKUP_INLINE void lockup_look_at(lockup_scoreboard *board, const char *what, ui
     difference->nth = difference->channel = difference->from = difference->word = LOCKUP_NO_NUMBER;
 }
 
-/* Notes a difference of values of words. Returns whether there is one. */
+/* Notes a difference of values of words, or of sets of cores. Returns whether there is one. */
 LOCKUP_INLINE int lockup_differ_value(lockup_scoreboard *board, const char *field, uint64_t wanted, uint64_t came) {
     lockup_difference *difference = &board->difference;
     if (wanted == came) return 0;
@@ -419,9 +420,9 @@ LOCKUP_INLINE int lockup_issued_differ(lockup_scoreboard *board, uint64_t op, co
         return lockup_differ_named(board, "reason", LOCKUP_NAMES(stall), wanted->number, came->number);
     if (wanted->answer == LOCKUP_REFUSED)
         return lockup_differ_named(board, "reason", LOCKUP_NAMES(refused), wanted->number, came->number);
-    if (wanted->answer == LOCKUP_DONE && op != LOCKUP_STORE && lockup_differ_value(board, "reply", wanted->reply, came->reply))
-        return 1;
-    return lockup_differ(board, "number", wanted->number, came->number);
+    return lockup_differ(board, "number", wanted->number, came->number)
+        || (wanted->answer == LOCKUP_DONE && op != LOCKUP_STORE
+            && lockup_differ_value(board, "reply", wanted->reply, came->reply));
 }
 
 /* Makes an access of the model, and compares the design's answer with its. */
@@ -469,6 +470,19 @@ LOCKUP_INLINE int lockup_next_differ(lockup_scoreboard *board, const lockup_next
         || (wanted->channel == LOCKUP_ACK && lockup_differ(board, "from", wanted->from, came->from));
 }
 
+/* Keeps the design's delivery in place of a next delivery with which the model moved nothing, and why it doesn't move that:
+ * where it has such a channel, and doesn't move it. */
+LOCKUP_INLINE void lockup_keep_delivery(lockup_scoreboard *board, const lockup_next_delivery *came) {
+    lockup_call call = lockup_call_of(LOCKUP_CALL_DELIVER, came->channel, came->line, came->core, came->from, 0, 0);
+    lockup_planned planned;
+    memset(&planned, 0, sizeof planned);
+    if (came->answer != LOCKUP_MOVED || board->record == LOCKUP_RECORD_NONE) return;
+    if (lockup_plan(&board->machine, came->channel, came->line, came->core, came->from, &planned)) return;
+    if (planned.answer == LOCKUP_MOVED) return;
+    call.told.answer = planned.answer;
+    board->made[board->made_count - 1] = call;
+}
+
 /* .. a next delivery: for a design whose lines take turns as the model's do. Any other calls lockup_expect_deliver. */
 LOCKUP_INLINE uint32_t lockup_expect_next(lockup_scoreboard *board, uint64_t slice, uint64_t channel,
                                           const lockup_next_delivery *answered) {
@@ -477,6 +491,7 @@ LOCKUP_INLINE uint32_t lockup_expect_next(lockup_scoreboard *board, uint64_t sli
     if (!code) code = lockup_deliver_next(&board->machine, slice, channel, &call.told.next);
     if (code) return code;
     lockup_note(board, &call);
+    if (call.told.next.answer != LOCKUP_MOVED) lockup_keep_delivery(board, answered);
     lockup_look_at(board, "next", LOCKUP_NO_NUMBER, LOCKUP_NO_NUMBER, slice);
     return lockup_differ_code(lockup_next_differ(board, &call.told.next, answered));
 }
@@ -485,9 +500,9 @@ LOCKUP_INLINE int lockup_receipts_differ(lockup_scoreboard *board, uint64_t op, 
                                          const lockup_receipt *came) {
     if (lockup_differ(board, "handed", wanted->handed, came->handed)) return 1;
     if (!wanted->handed) return 0;
-    return lockup_differ(board, "tag", wanted->tag, came->tag)
-        || (op != LOCKUP_STORE && lockup_differ_value(board, "reply", wanted->reply, came->reply))
-        || lockup_differ(board, "number", wanted->number, came->number);
+    return lockup_differ(board, "number", wanted->number, came->number)
+        || lockup_differ(board, "tag", wanted->tag, came->tag)
+        || (op != LOCKUP_STORE && lockup_differ_value(board, "reply", wanted->reply, came->reply));
 }
 
 /* .. a hand-out */
@@ -542,7 +557,7 @@ LOCKUP_INLINE int lockup_directories_differ(lockup_scoreboard *board, const lock
     const int is_current = state == LOCKUP_DIR_I || state == LOCKUP_DIR_S;
     return lockup_differ_named(board, "state", LOCKUP_NAMES(directory_state), state, came->state)
         || (state == LOCKUP_DIR_M && lockup_differ_named(board, "owner", LOCKUP_NAMES(core), wanted->owner, came->owner))
-        || (is_shared && lockup_differ(board, "sharers", wanted->sharers, came->sharers))
+        || (is_shared && lockup_differ_value(board, "sharers", wanted->sharers, came->sharers))
         || (is_current && lockup_differ_block(board, "home", wanted->home, came->home));
 }
 
@@ -586,17 +601,26 @@ LOCKUP_INLINE uint32_t lockup_compare_target(lockup_scoreboard *board, const loc
     return code ? code : lockup_differ_code(lockup_targets_differ(board, &wanted, &came));
 }
 
-LOCKUP_INLINE uint32_t lockup_compare_targets(lockup_scoreboard *board, const lockup_design *design, uint64_t core,
+LOCKUP_INLINE uint32_t lockup_compare_waiting(lockup_scoreboard *board, const lockup_design *design, uint64_t core,
                                               uint64_t line) {
     uint64_t count = 0, came = 0, nth;
     uint32_t code;
-    if (!design->targets) return LOCKUP_OK;
     lockup_look_at(board, "targets", core, line, LOCKUP_NO_NUMBER);
     code = lockup_targets(&board->machine, core, line, &count);
     if (!code) code = design->targets(design->of, core, line, &came);
     if (!code) code = lockup_differ_code(lockup_differ(board, "count", count, came));
-    for (nth = 0; nth < count && design->target_at && !code; nth++)
-        code = lockup_compare_target(board, design, core, line, nth);
+    if (code || came == LOCKUP_UNSEEN || !design->target_at) return code;
+    for (nth = 0; nth < count && !code; nth++) code = lockup_compare_target(board, design, core, line, nth);
+    return code;
+}
+
+LOCKUP_INLINE uint32_t lockup_compare_targets(lockup_scoreboard *board, const lockup_design *design) {
+    const uint64_t lines = board->config.lines;
+    uint32_t code = LOCKUP_OK;
+    uint64_t at;
+    if (!design->targets) return LOCKUP_OK;
+    for (at = 0; at < board->config.cores * lines && !code; at++)
+        code = lockup_compare_waiting(board, design, at / lines, at % lines);
     return code;
 }
 
@@ -632,24 +656,20 @@ LOCKUP_INLINE uint32_t lockup_compare_register(lockup_scoreboard *board, const l
     memset(&wanted, 0, sizeof wanted);
     code = lockup_register_at(&board->machine, core, slice, nth, &wanted);
     lockup_look_at(board, "register", core, wanted.line, slice);
-    if (!code && design->registers && design->register_at) {
-        code = lockup_find_register(design, core, slice, count, wanted.line, &came);
-        if (!code) code = lockup_differ_code(lockup_registers_differ(board, &wanted, &came));
-    }
-    if (!code) code = lockup_compare_targets(board, design, core, wanted.line);
-    return code;
+    if (!code) code = lockup_find_register(design, core, slice, count, wanted.line, &came);
+    return code ? code : lockup_differ_code(lockup_registers_differ(board, &wanted, &came));
 }
 
 LOCKUP_INLINE uint32_t lockup_compare_file(lockup_scoreboard *board, const lockup_design *design, uint64_t core,
                                            uint64_t slice) {
-    uint64_t count = 0, came_count = 0, nth;
-    uint32_t code = lockup_registers(&board->machine, core, slice, &count);
-    if (!code && design->registers) {
-        lockup_look_at(board, "registers", core, LOCKUP_NO_NUMBER, slice);
-        code = design->registers(design->of, core, slice, &came_count);
-        if (!code) code = lockup_differ_code(lockup_differ(board, "count", count, came_count));
-    }
-    for (nth = 0; nth < count && !code; nth++) code = lockup_compare_register(board, design, core, slice, nth, came_count);
+    uint64_t count = 0, came = 0, nth;
+    uint32_t code;
+    lockup_look_at(board, "registers", core, LOCKUP_NO_NUMBER, slice);
+    code = lockup_registers(&board->machine, core, slice, &count);
+    if (!code) code = design->registers(design->of, core, slice, &came);
+    if (!code) code = lockup_differ_code(lockup_differ(board, "count", count, came));
+    if (code || came == LOCKUP_UNSEEN || !design->register_at) return code;
+    for (nth = 0; nth < count && !code; nth++) code = lockup_compare_register(board, design, core, slice, nth, came);
     return code;
 }
 
@@ -657,7 +677,7 @@ LOCKUP_INLINE uint32_t lockup_compare_registers(lockup_scoreboard *board, const 
     const uint64_t slices = board->config.slices;
     uint32_t code = LOCKUP_OK;
     uint64_t at;
-    if (!design->registers && !design->targets) return LOCKUP_OK;
+    if (!design->registers) return LOCKUP_OK;
     for (at = 0; at < board->config.cores * slices && !code; at++)
         code = lockup_compare_file(board, design, at / slices, at % slices);
     return code;
@@ -685,7 +705,8 @@ LOCKUP_INLINE uint32_t lockup_compare_buffer(lockup_scoreboard *board, const loc
     code = lockup_writebacks(&board->machine, core, slice, &count);
     if (!code) code = design->writebacks(design->of, core, slice, &came);
     if (!code) code = lockup_differ_code(lockup_differ(board, "count", count, came));
-    for (nth = 0; nth < count && design->writeback_at && !code; nth++) {
+    if (code || came == LOCKUP_UNSEEN || !design->writeback_at) return code;
+    for (nth = 0; nth < count && !code; nth++) {
         code = lockup_writeback_at(&board->machine, core, slice, nth, &line);
         lockup_look_at(board, "writeback", core, line, slice);
         if (!code) code = lockup_find_writeback(design, core, slice, came, line, &found);
@@ -713,7 +734,8 @@ LOCKUP_INLINE uint32_t lockup_compare_set(lockup_scoreboard *board, const lockup
     code = lockup_ways(&board->machine, core, line, &count);
     if (!code) code = design->ways(design->of, core, line, &came_count);
     if (!code) code = lockup_differ_code(lockup_differ(board, "count", count, came_count));
-    for (nth = 0; nth < count && design->way_at && !code; nth++) {
+    if (code || came_count == LOCKUP_UNSEEN || !design->way_at) return code;
+    for (nth = 0; nth < count && !code; nth++) {
         uint64_t wanted = 0, came = 0;
         lockup_look_at(board, "way", core, line, LOCKUP_NO_NUMBER);
         board->difference.nth = nth;
@@ -794,8 +816,8 @@ LOCKUP_INLINE uint32_t lockup_compare_channels(lockup_scoreboard *board, const l
     code = lockup_messages(&board->machine, line, &count);
     if (!code) code = design->messages(design->of, line, &came);
     if (!code) code = lockup_differ_code(lockup_differ(board, "count", count, came));
-    for (nth = 0; nth < count && design->message_at && !code; nth++)
-        code = lockup_compare_message(board, design, line, nth, came);
+    if (code || came == LOCKUP_UNSEEN || !design->message_at) return code;
+    for (nth = 0; nth < count && !code; nth++) code = lockup_compare_message(board, design, line, nth, came);
     return code;
 }
 
@@ -807,8 +829,8 @@ LOCKUP_INLINE uint32_t lockup_compare_messages(lockup_scoreboard *board, const l
     return code;
 }
 
-/* Compares what the model has with what the design shows: copies, the directory's entries, miss registers and their
- * targets, write-backs, sets, and the messages in front of channels. LOCKUP_NO_MEMORY. */
+/* Compares what the model has with what the design shows: copies, the directory's entries, miss registers, targets,
+ * write-backs, sets, and the messages in front of channels. LOCKUP_NO_MEMORY. */
 LOCKUP_INLINE uint32_t lockup_compare(lockup_scoreboard *board, const lockup_design *design) {
     uint32_t code;
     if (!board || !design) return LOCKUP_NULL;
@@ -818,6 +840,7 @@ LOCKUP_INLINE uint32_t lockup_compare(lockup_scoreboard *board, const lockup_des
     code = lockup_compare_copies(board, design);
     if (!code) code = lockup_compare_directories(board, design);
     if (!code) code = lockup_compare_registers(board, design);
+    if (!code) code = lockup_compare_targets(board, design);
     if (!code) code = lockup_compare_writebacks(board, design);
     if (!code) code = lockup_compare_ways(board, design);
     if (!code) code = lockup_compare_messages(board, design);
@@ -919,7 +942,8 @@ LOCKUP_INLINE void lockup_write_settings(const lockup_config *config, FILE *file
     fprintf(file, "misses %s\nexclusive %s\n", LOCKUP_NAME(misses, config->misses), config->exclusive ? "on" : "off");
 }
 
-/* A call, and its answer if that is asked for. A next delivery is the delivery that it made, or a comment. */
+/* A call, and its answer if that is asked for. A next delivery is the delivery that it made, or a comment where there is
+ * none. */
 LOCKUP_INLINE void lockup_write_call(const lockup_call *call, FILE *file, int has_answers) {
     char row[LOCKUP_TEXT];
     lockup_text text = lockup_text_in(row, sizeof row);

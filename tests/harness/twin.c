@@ -1,12 +1,15 @@
 /* Draws calls, makes each of a machine and of a scoreboard beside it, and compares all that both show. The machine is the
  * design; PLANT spoils what it answers or shows, from call 100 on:
  *
- *     twin SEED CALLS RECORD [none | STRUCT PLACE KEY | lost LIST | reverse LIST | junk | unseen | rarely]
+ *     twin SEED CALLS RECORD [none | STRUCT PLACE KEY | lost LIST | reverse LIST | uncounted LIST | all ANSWER
+ *                             | moves | sharers | junk | unseen | rarely]
  *
  * STRUCT PLACE KEY adds 1 to a word of a struct whose key (its answer, state or kind) is KEY, or any where that is -1. lost
- * takes one from the count of a LIST, and reverse shows it from behind. junk fills what has no meaning, unseen what a
- * design may not have; rarely compares states at every 60th call alone. It prints the difference, the sentence, how many
- * calls lacked memory, and the script. A C89 program, and one of C++98. */
+ * takes one from the count of a LIST, and reverse shows it from behind; uncounted has no count of it, and no places. all
+ * adds 1 to each number of an ANSWER (issue or hand) that has a reply. moves answers a next delivery of data where there is
+ * none. sharers shows core 63, of 64, as the only sharer. junk fills what has no meaning, unseen what a design may
+ * not have; rarely compares states at every 60th call alone. It prints the difference, the sentence, how many calls lacked
+ * memory, and the script. A C89 program, and one of C++98. */
 #include "lockup_scoreboard.h"
 
 #define CHECK(call) check((call), #call)
@@ -59,6 +62,7 @@ static void spoil(const char *what, void *words, int at) {
 
 static void spoil_count(const char *what, uint64_t *count) {
     if (is("lost", what) && *count) --*count;
+    if (is("uncounted", what)) *count = LOCKUP_UNSEEN;
     spoil(what, count, 0);
 }
 
@@ -70,6 +74,7 @@ static void answer_issue(uint64_t core, uint64_t tag, uint64_t op, uint64_t word
     CALL(code, lockup_issue(&machine, core, tag, op, word, operand, other, it));
     if (is("junk", NULL) && (it->answer != LOCKUP_DONE || op == LOCKUP_STORE)) it->reply = draw(9);
     if (is("unseen", NULL)) it->number = LOCKUP_UNSEEN;
+    if (is("all", "issue") && it->answer == LOCKUP_DONE && op != LOCKUP_STORE) it->number++, it->reply++;
     spoil(op == LOCKUP_STORE ? "store" : "issue", it, 0);
     (void)code;
 }
@@ -79,6 +84,10 @@ static void answer_next(uint64_t slice, uint64_t channel, lockup_next_delivery *
     if (is("junk", NULL) && it->answer != LOCKUP_MOVED) it->channel = it->line = it->core = it->from = 77;
     if (is("junk", NULL) && it->channel == LOCKUP_HOME) it->core = 77;
     if (is("junk", NULL) && it->channel != LOCKUP_ACK) it->from = 77;
+    if (is("moves", NULL) && it->answer != LOCKUP_MOVED) {
+        memset(it, 0, sizeof *it);
+        it->channel = LOCKUP_DATA;
+    }
     spoil("next", it, 0);
 }
 
@@ -90,6 +99,7 @@ static void answer_hand(uint64_t core, uint64_t slice, lockup_receipt *it) {
     if (is("junk", NULL) && !it->handed) it->number = it->tag = it->reply = 77;
     if (is("junk", NULL) && entry.op == LOCKUP_STORE) it->reply = 77;
     if (is("unseen", NULL)) it->number = LOCKUP_UNSEEN;
+    if (is("all", "hand") && it->handed && entry.op != LOCKUP_STORE) it->number++, it->tag++, it->reply++;
     spoil(entry.op == LOCKUP_STORE ? "hand store" : "hand", it, 0);
 }
 
@@ -111,11 +121,13 @@ static uint32_t directory_at(void *of, uint64_t line, lockup_directory *it) {
     if (is("junk", NULL) && it->state != LOCKUP_DIR_M) it->owner = 1;
     if (is("junk", NULL) && (it->state == LOCKUP_DIR_M || it->state == LOCKUP_DIR_I)) it->sharers = 77;
     if (is("junk", NULL) && (it->state == LOCKUP_DIR_M || it->state == LOCKUP_DIR_S_D)) it->home[draw(8)] = 77;
+    if (is("sharers", NULL)) it->sharers = (uint64_t)1 << 63;
     spoil("directory", it, 0);
     return code;
 }
 
 static uint64_t place_of(const char *what, uint64_t nth, uint64_t count) {
+    if (is("uncounted", what)) return count;
     return is("reverse", what) ? count - 1 - nth : nth;
 }
 
@@ -281,6 +293,7 @@ static void begin(uint64_t seed) {
     state = seed * 0x9E3779B9u + 1;
     CHECK(lockup_defaults(&config));
     config.cores = 2 + draw(3);
+    if (is_planted("sharers")) config.cores = 64;
     config.slices = (uint64_t)1 << draw(3);
     config.lines = 4 * config.slices;
     config.sets = 1 + seed % 2;

@@ -15,7 +15,7 @@ from harness import ROOT, Ran, each, lockup, needs, read, run, same, seconds, wa
 from harness.library import shared
 from suite.histories import Access
 from suite.judged import is_sound
-from suite.library_scoreboard import PLANTS, SEEDS, script_of, twin
+from suite.library_scoreboard import LISTS, PLANTS, SEEDS, script_of, twin
 
 FOLDER = ROOT / "examples/cosim"
 AGREE = "agree: 100000 calls\n"
@@ -52,7 +52,7 @@ def test_systemverilog() -> None:
     same("status and output", (0, AGREE), cosim("systemverilog")[:2])
 
 
-LISTS = """module lists;
+SHAPES = """module lists;
   import lockup_pkg::*;
   chandle machine = null;
   longint unsigned shape[12], pairs[128], counters[8], value[2];
@@ -79,7 +79,7 @@ def test_lists_of_systemverilog() -> None:
     needs_verilator()
     with tempfile.TemporaryDirectory() as room:
         made = run(["verilator", "--binary", "--Mdir", room, "--top-module", "lists", ROOT / "systemverilog/lockup_pkg.sv",
-                    write(f"{room}/lists.sv", LISTS), shared(), "-LDFLAGS", f"-Wl,-rpath,{shared().parent}"])
+                    write(f"{room}/lists.sv", SHAPES), shared(), "-LDFLAGS", f"-Wl,-rpath,{shared().parent}"])
         same("status of verilator", 0, made.status)
         told = [it for it in run([f"{room}/Vlists"]).out.splitlines() if not it.startswith("- ")]
         same("codes and values", ["2", "2", "2", "1", "0", "0", "127"], told)
@@ -92,6 +92,20 @@ def test_wrong_row(row: str) -> None:
     with tempfile.TemporaryDirectory() as room:
         script = Path(room, "counterexample.txt")
         judge_difference(cosim("systemverilog", row, f"+script={script}"), script)
+
+
+@seconds(60)
+def test_wrong_answers() -> None:
+    """Answers alone find row 2 too, and the caches answer the script otherwise than the program."""
+    needs_verilator()
+    with tempfile.TemporaryDirectory() as room:
+        script = Path(room, "counterexample.txt")
+        ran = cosim("systemverilog", "2", "+answers", f"+script={script}")
+        judge_difference(ran, script)
+        want(ran.out.startswith("call "), f"a state differs: {ran.out}")
+        wanted, told = lockup("script", script).out.splitlines(), cosim("systemverilog", "2", "--script", script)
+        same("status and answers", (0, len(wanted)), (told.status, len(told.out.splitlines())))
+        want(wanted[-1] != told.out.splitlines()[-1], f"both answer {wanted[-1]}")
 
 
 # by row, what the history comes to, with its times and without. A copy that is stale for a while is one that was read
@@ -176,11 +190,13 @@ def twin_of_systemverilog(room: str) -> str:
 
 @seconds(90)
 def test_scoreboards() -> None:
-    """The class says of each planted change what the scoreboard in C says, and writes the same script."""
+    """The class says of each planted change what the scoreboard in C says, and writes the same script. One that is done can
+    start again."""
     needs_verilator()
     with tempfile.TemporaryDirectory() as room:
         made, script = twin_of_systemverilog(room), f"{room}/script.txt"
-        for what, place, key, where in [("none", 0, 0, ""), ("reverse", "registers", 0, ""), *PLANTS]:
+        uncounted = [("uncounted", it, 0, "") for it in LISTS]
+        for what, place, key, where in [("none", 0, 0, ""), ("reverse", "registers", 0, ""), *uncounted, *PLANTS]:
             words = {"place": place, "key": key} if isinstance(place, int) else {"planted": place}
             # the first seeds that show it, as in C
             for seed in SEEDS:
@@ -192,3 +208,8 @@ def test_scoreboards() -> None:
             _, *said = ran.out.partition("cores ")[0].splitlines() if ran.status else ("", "agree", "")
             same(f"what it says of {what} {place} {key}", said[0], told.out.splitlines()[0])
             same(f"script of {what} {place} {key}", script_of(ran), read(script))
+        told = run([made, "+seed=0", "+calls=150", f"+script={script}", "+plant=issue", "+place=0", "+key=1", "+again"])
+        first, second = told.out.splitlines()[:2]
+        want(first.startswith("call "), first)
+        same("what it says again", "agree", second)
+        same("script of the second", script_of(run([twin(), "0", "150", "1"])), read(script))

@@ -1,7 +1,7 @@
 """The scoreboard (include/lockup_scoreboard.h): a machine and a scoreboard beside it, of which each call is made
 (tests/harness/twin.c), as C of 1990 and as C++ of 1998. They agree, also where what has no meaning is junk; each planted
 change is found as the field that was changed, the sentence says so, and `lockup test` plays the script up to the call that
-differs. Sentences by hand, each code, `NULL`, and each allocation refused in turn."""
+differs. Sentences by hand, also the longest, each code, `NULL`, and each allocation refused in turn."""
 import os
 import re
 import tempfile
@@ -14,16 +14,17 @@ from harness.library import INCLUDE, shared
 TWIN = ROOT / "tests/harness/twin.c"
 STRICT = ["-pedantic-errors", "-Wall", "-Wextra", "-Werror", "-O1", f"-I{INCLUDE}"]
 SEEDS = range(12)
+LISTS = "registers targets writebacks ways messages".split()
 CALLS = 2000
 NONE, ALL, CHANGES = "012"
 
 
-def compiled(source: Path, dialect: str, made: str) -> str:
+def compiled(source: Path, dialect: str, made: str, *options: str) -> str:
     """Compiles a program over the shared object."""
     kind, library = ("c++", shared()) if "+" in dialect else ("cc", shared())
     needs(kind)
-    words = [kind, "-x", "c++" if "+" in dialect else "c", f"-std={dialect}", *STRICT, source, "-x", "none", library]
-    same("the compiler", (0, "", ""), tuple(run([*words, f"-Wl,-rpath,{library.parent}", "-o", f"{made}.new"])))
+    words = [kind, "-x", "c++" if "+" in dialect else "c", f"-std={dialect}", *STRICT, *options, source, "-x", "none"]
+    same("the compiler", (0, "", ""), tuple(run([*words, library, f"-Wl,-rpath,{library.parent}", "-o", f"{made}.new"])))
     os.rename(f"{made}.new", made)
     return made
 
@@ -65,7 +66,8 @@ def judge_difference(where: str, ran: Ran) -> None:
     found, said = ran.out.splitlines()[:2]
     at, wanted, came = found.split()
     same("where", where, at)
-    want(abs(int(wanted) - int(came)) in (1, (1 << 64) - 1) or at == "target.tag", found)
+    if at not in ("target.tag", "directory.sharers", "next.answer"):
+        want(abs(int(wanted) - int(came)) in (1, (1 << 64) - 1), found)
     told = SAYS.fullmatch(said)
     want(told, f"no sentence: {said}")
     same("field", where.split(".")[1], told[5].partition("[")[0])
@@ -88,9 +90,20 @@ def test_agreement(dialect: str) -> None:
 
 
 @seconds(5)
-@each(lambda: ["junk", "unseen", "reverse registers", "reverse writebacks", "reverse messages"])
+@each(lambda: ["c89", "c++98"])
+def test_unchecked(dialect: str) -> None:
+    """The headers stand without lockup_null.h."""
+    with tempfile.TemporaryDirectory() as room:
+        made = compiled(TWIN, dialect, f"{room}/twin", "-DLOCKUP_UNCHECKED")
+        judge_agreement(0, run([made, "0", str(CALLS), ALL]))
+
+
+@seconds(5)
+@each(lambda: ["junk", "unseen", "reverse registers", "reverse writebacks", "reverse messages",
+               *(f"uncounted {what}" for what in LISTS)])
 def test_without_meaning(plant: str) -> None:
-    """.. it may be anything: what has none in its place, the order of lists without one, numbers that a design lacks."""
+    """.. it may be anything: what has none in its place, the order of lists without one, numbers that a design lacks, and
+    the places of a list that it doesn't count."""
     for seed in SEEDS:
         judge_agreement(seed, run([twin(), str(seed), str(CALLS), ALL, *plant.split()]))
 
@@ -104,14 +117,18 @@ PLANTS = [
     ("next", 3, 0, "next.core"), ("next", 4, 0, "next.from"),
     ("hand", 0, 0, "hand.handed"), ("hand", 0, 1, "hand.handed"), ("hand", 1, 1, "hand.number"), ("hand", 2, 1, "hand.tag"),
     ("hand", 3, 1, "hand.reply"), ("hand store", 2, 1, "hand.tag"),
+    # of an answer with several the first is found: the number comes before the tag and the reply
+    ("all", "issue", -1, "issue.number"), ("all", "hand", -1, "hand.number"), ("moves", 0, -1, "next.answer"),
     *(("copy", 0, key, "copy.state") for key in range(12)), *(("copy", 1, key, "copy.wants") for key in (3, 6)),
     *(("copy", 2, key, "copy.counted") for key in (2, 3, 5, 6)),
     *(("copy", 10, key, "copy.block") for key in (3, 4, 5, 6, 7, 8, 9, 11)),
     *(("directory", 0, key, "directory.state") for key in range(4)), ("directory", 1, 2, "directory.owner"),
     *(("directory", 2, key, "directory.sharers") for key in (1, 3)), *(("directory", 3, key, "directory.home") for key in (0, 1)),
+    ("sharers", 0, -1, "directory.sharers"),
     ("registers", 0, -1, "registers.count"), ("lost", "registers", -1, "registers.count"),
     *(("register", place, 1, f"register.{it}") for place, it in enumerate(("count", "kind", "needed", "counted", "targets"))),
-    ("targets", 0, -1, "targets.count"), ("lost", "targets", -1, "targets.count"), ("reverse", "targets", -1, "target.tag"),
+    ("targets", 0, -1, "targets.count"), ("targets", 0, 0, "targets.count"), ("lost", "targets", -1, "targets.count"),
+    ("reverse", "targets", -1, "target.tag"),
     *(("target", place, 3, f"target.{field}")
       for place, field in enumerate(("tag", "op", "word", "operand", "replacement", "seq", "since"))),
     ("writebacks", 0, -1, "writebacks.count"), ("lost", "writebacks", -1, "writebacks.count"),
@@ -285,6 +302,96 @@ def test_by_hand() -> None:
     same("what it says", SAYS_BY_HAND, said)
     same("the script", SCRIPT_BY_HAND, script[script.index("issue"):])
     played(f"{settings}{script}")
+
+
+LONG = r"""
+#include "lockup_scoreboard.h"
+static uint64_t sharers;
+static uint32_t directory_at(void *of, uint64_t line, lockup_directory *it) {
+    it->state = line == 0 && of ? LOCKUP_DIR_S : LOCKUP_DIR_I;
+    it->sharers = sharers;
+    return LOCKUP_OK;
+}
+int main(void) {
+    lockup_scoreboard board = {0};
+    lockup_config config;
+    lockup_design design;
+    lockup_issued any;
+    char text[LOCKUP_TEXT];
+    uint64_t core;
+    memset(&design, 0, sizeof design);
+    memset(&any, 0, sizeof any);
+    any.answer = any.number = LOCKUP_UNSEEN;
+    lockup_defaults(&config);
+    config.cores = 64;
+    if (lockup_scoreboard_begin(&board, &config, NULL, 0, NULL, 0)) return 2;
+    for (core = 0; core < 63; core++)
+        if (lockup_expect_issue(&board, core, 0, LOCKUP_LOAD, 0, 0, 0, &any)
+            || lockup_expect_deliver(&board, LOCKUP_REQ, 0, core, 0, LOCKUP_MOVED)
+            || lockup_expect_deliver(&board, LOCKUP_DATA, 0, core, 0, LOCKUP_MOVED)) return 3;
+    if (lockup_expect_issue(&board, 63, 255, LOCKUP_CAS, UINT64_MAX, UINT64_MAX, UINT64_MAX, &any)) return 4;
+    design.of = &config;
+    design.directory_at = directory_at;
+    for (core = 0; core < 2; core++) {
+        sharers = core ? UINT64_MAX : (uint64_t)1 << 63;
+        if (lockup_compare(&board, &design) != LOCKUP_DIFFERS) return 5;
+        if (lockup_difference_text(&board, text, sizeof text)) return 6;
+        printf("%s\n", text);
+        board.difference.found = 0;
+    }
+    return (int)lockup_scoreboard_end(&board);
+}
+"""
+
+
+@seconds(2)
+def test_64_cores() -> None:
+    """Core 63 is a sharer as any other, and the longest sentence has room."""
+    ran = of_program(LONG)
+    same("status and error", (0, ""), (ran.status, ran.err))
+    most, cores = (1 << 64) - 1, ",".join(map(str, range(63)))
+    said = f"after call 189, issue 63 255 cas {most} {most} {most}: directory of line 0: sharers is core {cores}"
+    same("what it says", [f"{said}, and the design's is core {it}" for it in ("63", f"{cores},63")], ran.out.splitlines())
+
+
+NEXT = r"""
+#include "lockup_scoreboard.h"
+int main(int count, char **words) {
+    lockup_scoreboard board = {0};
+    lockup_config config;
+    lockup_issued pending;
+    lockup_next_delivery came;
+    memset(&pending, 0, sizeof pending);
+    memset(&came, 0, sizeof came);
+    pending.answer = LOCKUP_PENDING;
+    came.channel = LOCKUP_NUMBER(channel, words[count - 2]);
+    came.line = (uint64_t)atol(words[count - 1]);
+    came.from = 99;
+    lockup_defaults(&config);
+    if (lockup_scoreboard_begin(&board, &config, NULL, 0, NULL, 0)) return 2;
+    board.record = count - 3;
+    if (lockup_expect_issue(&board, 0, 5, LOCKUP_LOAD, 0, 0, 0, &pending)) return 3;
+    if (lockup_expect_next(&board, 0, LOCKUP_DATA, &came) != LOCKUP_DIFFERS) return 4;
+    if (lockup_write_script(&board, stdout, 1)) return 5;
+    return (int)lockup_scoreboard_end(&board);
+}
+"""
+
+
+@seconds(2)
+def test_next_of_the_design() -> None:
+    """Where the model moves nothing the script has what the design moved, if the model has such a channel and doesn't move
+    it: core 0 asks for line 0, and no data are there."""
+    says = "# call 1, next 0 data: answer is nothing, and the design's is moved"
+    with tempfile.TemporaryDirectory() as room:
+        made = compiled(write(f"{room}/it.c", NEXT), "c89", f"{room}/it")
+        for channel, line, row in (("data", "0", "deliver data 0 0"), ("data", "999", "# next 0 data"),
+                                   ("req", "0", "# next 0 data"), ("any", "0", "# next 0 data")):
+            for recorded in ["all"], ["only", "changes"]:
+                ran = run([made, *recorded, channel, line])
+                same("status", 0, ran.status)
+                same("the script", ["issue 0 5 load 0 = pending 0", f"{row} = nothing", says], ran.out.splitlines()[-3:])
+                played(ran.out)
 
 
 CODES = r"""

@@ -962,7 +962,8 @@ LOCKUP_INLINE void lockup_write_call(const lockup_call *call, FILE *file, int ha
 }
 
 /* Writes the calls as a script, with `has_answers` as one of `lockup test`, which wants the answers of the model; behind
- * the call that differs a comment says what the design has. LOCKUP_NOT_RECORDED where a call was made under LOCKUP_RECORD_NONE; LOCKUP_NOT_WRITTEN. */
+ * the call that differs a comment says what the design has. LOCKUP_NOT_RECORDED where a call was made under
+ * LOCKUP_RECORD_NONE; LOCKUP_NOT_WRITTEN. */
 LOCKUP_INLINE uint32_t lockup_write_script(const lockup_scoreboard *board, FILE *file, int has_answers) {
     char said[LOCKUP_TEXT];
     size_t at;

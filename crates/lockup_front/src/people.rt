@@ -1,5 +1,7 @@
 //! Who is at the other end, and what they are told.
 
+ghost use Rattle.std.specs.Prelude.{◌<◌};
+
 use clap::Error;
 use clap::error::ErrorKind;
 use litmus_text::TextFault;
@@ -35,13 +37,10 @@ pub fn show<R: Print + Eprint>(rt: &R, people: People, error: &Error) -> u8 {
     }
 }
 
-/// Reports that input can't be read: for want of memory, or else as the text says.
-pub fn report<R: Eprint>(
-    rt: &R,
-    people: People,
-    error: &io::Error,
-    text: impl Display + Drop,
-) -> u8 {
+/// Writes why input can't be read to standard error: no memory, or else this text. Returns the exit status.
+pub fn report<R: Eprint>(rt: &R, people: People, error: &io::Error, text: impl Display + Drop) -> u8
+    ensures { 0 < result }
+{
     if error.kind() == io::ErrorKind::OutOfMemory {
         complain(rt, people, TextFault::NoMemory);
         return TextFault::NoMemory.status();

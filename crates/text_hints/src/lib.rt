@@ -4,6 +4,9 @@
 //! These are hints, and no contract says which: `tests/suite/hints.py` tries them.
 #![tactic(auto)]
 
+ghost use Rattle.std.specs.Prelude.{IfSome};
+ghost use Rattle.text_hints.specs.Hint.{IsOfText};
+
 use litmus_text::{LineFault, Statement, Statements, TextFault};
 use misfit::WrongLine;
 use script_explained::expected;
@@ -33,9 +36,11 @@ pub enum TextKind {
     History,
 }
 
-/// Says what a reader of this error may want to know, of a text that was read as one of this kind. There is no hint
-/// where memory is refused.
-pub fn hint(alloc: Global, read_as: TextKind, input: &[u8], fault: TextFault) -> Option<String> {
+/// Returns what may help the reader of this error, of a text that was read as one of this kind; `None` also where an
+/// allocation fails.
+pub fn hint(alloc: Global, read_as: TextKind, input: &[u8], fault: TextFault) -> Option<String>
+    ensures { IfSome result (λ hint. IsOfText fault) }
+{
     match fault {
         TextFault::Line { number, fault } => hint_at(alloc, read_as, input, number, fault),
         TextFault::Config(error) => told(alloc, config::misfit(input, error)?),

@@ -1,21 +1,20 @@
 -- What an order keeps, as it is read.
-use Rattle.std.proofs.Common.{◌≡◌, ◌≢◌, ℕ, ◌+◌, ◌^◌, ◌<◌, ◌≤◌, ◌⊎◌, List, [], ◌∷◌, ◌++◌, length, take, get_or, cond, eqb}
-use Rattle.std.proofs.Common.{Some, None, max, refl, sym, ap, ◌∙◌, inl, inr, arith, subst}
+use Rattle.std.proofs.Common.{◌≡◌, ◌≢◌, ℕ, ◌+◌, ◌^◌, ◌<◌, ◌≤◌, ◌⊎◌, ◌↔◌, List, [], ◌∷◌, ◌++◌, length, take, get_or, cond, eqb}
+use Rattle.std.proofs.Common.{Option, Some, None, max, refl, sym, ap, ◌∙◌, inl, inr, arith, subst}
 use Rattle.std.proofs.Math.ListN.{set, replicate}
-use Rattle.std.specs.Prelude.{slice_get, All, map}
+use Rattle.std.specs.Prelude.{slice_get, map, unwrap_or}
 use Rattle.std.proofs.lemmas.Bool.{cases_eq, cases_lt, cases_order}
 use Rattle.std.proofs.lemmas.List.{map_more, take_all, get_or-set_same, get_or-set_other, get_or-map, length-map, take-map}
 use Rattle.std.proofs.lemmas.List.{length-replicate, get_or-replicate, get_or_past, get_or-take, length-take-le, length-set}
 use Rattle.std.proofs.lemmas.Option.{slice_get_within, slice_get-get_or, get_or_from_slice_get, same_Some}
-use Rattle.address_map.specs.declared.address.WordAddr.{WordAddr}
 use Rattle.address_map.specs.declared.address.CoreId.{CoreId}
-use Rattle.slice_log.specs.Log.{value, IsLegal, IsOrdered, IsAfter}
+use Rattle.slice_log.specs.Log.{value, IsLegal, IsOrdered}
 use Rattle.slice_log.specs.Op.{reply_of, value_of}
 use Rattle.slice_log.specs.declared.entry.Entry.{Entry}
-use Rattle.slice_log.proofs.Values.{value-nil, value-perform}
-use Rattle.slice_log.proofs.Pushes.{IsLegal-nil, IsLegal-push, IsOrdered-nil, IsOrdered-push}
+use Rattle.slice_log.proofs.Values.{value-nil, value-perform, value-perform_other}
+use Rattle.slice_log.proofs.Pushes.{IsLegal-nil, IsLegal-push}
 use Rattle.history_judge.specs.Access.{entry_of}
-use Rattle.history_judge.specs.Order.{entry_at, no_access, trace_of, HasEachOnce, KeepsIntervals}
+use Rattle.history_judge.specs.Order.{entry_at, no_access, trace_of, HasEachOnce, IsOrderOf, KeepsCores, KeepsIntervals}
 use Rattle.history_judge.specs.declared.access.Access.{Access}
 use Rattle.history_judge.proofs.Runs.{trace_of-at}
 
@@ -36,63 +35,126 @@ max_is_one a b n is = elim (cases_order a b) [
 ]
 
 -- the trace of one more access
-pub trace_of-more : (word : WordAddr) (history : List Access) (order : List ℕ) (k i : ℕ) (a : Access)
+pub trace_of-more : (history : List Access) (order : List ℕ) (k i : ℕ) (a : Access)
     → slice_get order k ≡ Some i → slice_get history i ≡ Some a
-    → trace_of word history (take (k + 1) order) ≡ trace_of word history (take k order) ++ entry_of word i a ∷ []
-trace_of-more word history order k i a stands here =
+    → trace_of history (take (k + 1) order) ≡ trace_of history (take k order) ++ entry_of i a ∷ []
+trace_of-more history order k i a stands here =
     let within : k < length order = slice_get_within order k i stands in
     let read : get_or order k 0 ≡ i = get_or_from_slice_get order k i 0 stands in
     let found : get_or history i no_access ≡ a = get_or_from_slice_get history i a no_access here in
-    map_more (entry_at word history) order k 0 within
-    ∙ ap (λ n. trace_of word history (take k order) ++ entry_at word history n ∷ []) read
-    ∙ ap (λ (x : Access). trace_of word history (take k order) ++ entry_of word i x ∷ []) found
+    map_more (entry_at history) order k 0 within
+    ∙ ap (λ n. trace_of history (take k order) ++ entry_at history n ∷ []) read
+    ∙ ap (λ (x : Access). trace_of history (take k order) ++ entry_of i x ∷ []) found
 
 -- ---- replies
 
-pub record IsExplained (initial : ℕ) (history : List Access) (order : List ℕ) (k now : ℕ) : Type 0 where
-  pub legal : (word : WordAddr) → IsLegal (λ _. initial) (trace_of word history (take k order))
-  pub value : (word : WordAddr) → now ≡ value initial (trace_of word history (take k order)) word.0
+-- The accesses that were read are explained. The map has the value of each word of which one was read, and no entry
+-- changed another.
+pub record IsExplained (initial : ℕ → ℕ) (history : List Access) (order : List ℕ) (k : ℕ) (now : ℕ → Option ℕ)
+    : Type 0 where
+  pub legal : IsLegal initial (trace_of history (take k order))
+  pub known : (w v : ℕ) → now w ≡ Some v → v ≡ value (initial w) (trace_of history (take k order)) w
+  pub fresh : (w : ℕ) → now w ≡ None
+      → value (initial w) (trace_of history (take k order)) w ≡ value (initial w) [] w
 
-pub explained-none : (initial : ℕ) (history : List Access) (order : List ℕ) → initial < 2 ^ 64
-    → IsExplained initial history order 0 initial
-explained-none initial history order small = record {
-  legal = λ word. IsLegal-nil (λ _. initial);
-  value = λ word. sym (value-nil initial word.0 small);
+pub explained-none : (initial : ℕ → ℕ) (history : List Access) (order : List ℕ) (now : ℕ → Option ℕ)
+    → ((w : ℕ) → now w ≡ None) → IsExplained initial history order 0 now
+explained-none initial history order now none = record {
+  legal = IsLegal-nil initial;
+  known = λ w v some. let no : now w ≡ None = none w in absurd (cc);
+  fresh = λ w no. refl;
 }
 
-pub explained-more : (initial : ℕ) (history : List Access) (order : List ℕ) (k i now next : ℕ) (a : Access)
-    → slice_get order k ≡ Some i → slice_get history i ≡ Some a
-    → a.reply ≡ reply_of a.op now → next ≡ value_of a.op now → IsExplained initial history order k now
-    → IsExplained initial history order (k + 1) next
-explained-more initial history order k i now next a stands here reply left so_far = record {
-  legal = λ word.
-      rw (trace_of-more word history order k i a stands here)
-      (IsLegal-push (λ _. initial) (trace_of word history (take k order)) (entry_of word i a) (so_far.legal word)
-      (reply ∙ ap (reply_of a.op) (so_far.value word)));
-  value = λ word.
-      let log = trace_of word history (take k order) in
-      left ∙ ap (value_of a.op) (so_far.value word)
-      ∙ sym (value-perform initial log (entry_of word i a) word.0 refl (reply ∙ ap (reply_of a.op) (so_far.value word)))
-      ∙ ap (λ (t : List Entry). value initial t word.0) (sym (trace_of-more word history order k i a stands here));
-}
+-- the value of a word: what the map has, or else the initial one
+pub value_now : (initial : ℕ → ℕ) (history : List Access) (order : List ℕ) (k : ℕ) (now : ℕ → Option ℕ) (w v : ℕ)
+    → v < 2 ^ 64 → v ≡ unwrap_or (now w) (initial w) → IsExplained initial history order k now
+    → v ≡ value (initial w) (trace_of history (take k order)) w
+value_now initial history order k now w v small is so_far = from (now w) refl is
+  where
+    from : (o : Option ℕ) → now w ≡ o → v ≡ unwrap_or o (initial w)
+        → v ≡ value (initial w) (trace_of history (take k order)) w
+    from None none same =
+        same ∙ sym (value-nil (initial w) w (subst (λ n. n < 2 ^ 64) same small)) ∙ sym (so_far.fresh w none)
+    from (Some u) some same = same ∙ so_far.known w u some
 
-pub explained-all : (initial : ℕ) (history : List Access) (order : List ℕ) (k now : ℕ) → length order ≤ k
-    → IsExplained initial history order k now → (word : WordAddr)
-    → IsLegal (λ _. initial) (trace_of word history order)
-explained-all initial history order k now all so_far word =
-    let whole = take_all k order all in rw whole at (so_far.legal word)
+module _ (initial : ℕ → ℕ) (history : List Access) (order : List ℕ) (k i was next : ℕ) (a : Access)
+    (now then : ℕ → Option ℕ)
+    (stands : slice_get order k ≡ Some i) (here : slice_get history i ≡ Some a)
+    (so_far : IsExplained initial history order k now)
+    (is : was ≡ value (initial a.word.0) (trace_of history (take k order)) a.word.0)
+    (reply : a.reply ≡ reply_of a.op was) (left : next ≡ value_of a.op was)
+    (sets : then a.word.0 ≡ Some next) (others : (w : ℕ) → w ≢ a.word.0 → then w ≡ now w) where
+  log : List Entry
+  log = trace_of history (take k order)
+
+  more : List Entry
+  more = trace_of history (take (k + 1) order)
+
+  more-is : more ≡ log ++ entry_of i a ∷ []
+  unfolding more log
+  more-is = trace_of-more history order k i a stands here
+
+  replied : a.reply ≡ reply_of a.op (value (initial a.word.0) log a.word.0)
+  unfolding log
+  replied = reply ∙ ap (reply_of a.op) is
+
+  is_log : was ≡ value (initial a.word.0) log a.word.0
+  unfolding log
+  is_log = is
+
+  own : value (initial a.word.0) more a.word.0 ≡ next
+  own =
+      ap (λ (t : List Entry). value (initial a.word.0) t a.word.0) more-is
+      ∙ value-perform (initial a.word.0) log (entry_of i a) a.word.0 refl replied
+      ∙ ap (value_of a.op) (sym is_log) ∙ sym left
+
+  other : (w : ℕ) → w ≢ a.word.0 → value (initial w) more w ≡ value (initial w) log w
+  other w apart =
+      ap (λ (t : List Entry). value (initial w) t w) more-is
+      ∙ value-perform_other (initial w) log (entry_of i a) w (λ same. apart (sym same))
+
+  known_more : (w v : ℕ) → then w ≡ Some v → v ≡ value (initial w) more w
+  unfolding log
+  known_more w v some = elim (cases_eq w a.word.0) [
+    | inl same ↦
+        let v_is : v ≡ next = same_Some v next (sym some ∙ ap then same ∙ sets) in
+        v_is ∙ sym own ∙ ap (λ n. value (initial n) more n) (sym same)
+    | inr apart ↦ so_far.known w v (sym (others w apart) ∙ some) ∙ sym (other w apart)
+  ]
+
+  fresh_more : (w : ℕ) → then w ≡ None → value (initial w) more w ≡ value (initial w) [] w
+  unfolding log
+  fresh_more w none = elim (cases_eq w a.word.0) [
+    | inl same ↦ let set : then w ≡ Some next = ap then same ∙ sets in absurd (cc)
+    | inr apart ↦ other w apart ∙ so_far.fresh w (sym (others w apart) ∙ none)
+  ]
+
+  pub explained-more : IsExplained initial history order (k + 1) then
+  unfolding more log
+  explained-more = record {
+    legal =
+        rw (trace_of-more history order k i a stands here)
+        (IsLegal-push initial (trace_of history (take k order)) (entry_of i a) so_far.legal replied);
+    known = known_more;
+    fresh = fresh_more;
+  }
+
+pub explained-all : (initial : ℕ → ℕ) (history : List Access) (order : List ℕ) (k : ℕ) (now : ℕ → Option ℕ)
+    → length order ≤ k → IsExplained initial history order k now → IsLegal initial (trace_of history order)
+explained-all initial history order k now all so_far =
+    let whole = take_all k order all in rw whole at so_far.legal
 
 -- an order with another reply isn't legal
-pub unexplained : (initial : ℕ) (history : List Access) (order : List ℕ) (k i now : ℕ) (a : Access)
-    → slice_get order k ≡ Some i → slice_get history i ≡ Some a → a.reply ≢ reply_of a.op now
-    → IsExplained initial history order k now → (word : WordAddr)
-    → IsLegal (λ _. initial) (trace_of word history order) → ⊥
-unexplained initial history order k i now a stands here other so_far word legal =
-    let asked = legal.replies k (entry_of word i a) (trace_of-at word history order k i a stands here) in
+pub unexplained : (initial : ℕ → ℕ) (history : List Access) (order : List ℕ) (k i was : ℕ) (a : Access)
+    → slice_get order k ≡ Some i → slice_get history i ≡ Some a → a.reply ≢ reply_of a.op was
+    → was ≡ value (initial a.word.0) (trace_of history (take k order)) a.word.0
+    → IsLegal initial (trace_of history order) → ⊥
+unexplained initial history order k i was a stands here other is legal =
+    let asked = legal.replies k (entry_of i a) (trace_of-at history order k i a stands here) in
     other
     (asked
-    ∙ ap (λ (t : List Entry). reply_of a.op (value initial t word.0)) (take-map (entry_at word history) k order)
-    ∙ ap (reply_of a.op) (sym (so_far.value word)))
+    ∙ ap (λ (t : List Entry). reply_of a.op (value (initial a.word.0) t a.word.0)) (take-map (entry_at history) k order)
+    ∙ ap (reply_of a.op) (sym is))
 
 -- ---- cores
 
@@ -110,7 +172,8 @@ pub record IsReached (history : List Access) (order : List ℕ) (k : ℕ) (bound
 pub record IsBounded (history : List Access) (order : List ℕ) (k : ℕ) (bounds : List ℕ) : Type 0 where
   pub size : length bounds ≡ 256
   pub within : (j i : ℕ) → j < k → slice_get order j ≡ Some i → i < length history
-  pub ordered : (word : WordAddr) → IsOrdered (trace_of word history (take k order))
+  pub kept : (j l a b : ℕ) (d e : Access) → j < l → l < k → slice_get order j ≡ Some a → slice_get order l ≡ Some b
+      → slice_get history a ≡ Some d → slice_get history b ≡ Some e → d.core.0 ≡ e.core.0 → a < b
   pub below : (j i : ℕ) (a : Access) → j < k → slice_get order j ≡ Some i → slice_get history i ≡ Some a
       → i < get_or bounds a.core.0 0
   pub reached : (core : ℕ) → (get_or bounds core 0 ≡ 0) ⊎ IsReached history order k bounds core
@@ -120,7 +183,7 @@ pub bounded-none : (history : List Access) (order : List ℕ) (bounds : List ℕ
 bounded-none history order bounds size zero = record {
   size = size;
   within = λ j i none. absurd (omega arith);
-  ordered = λ word. IsOrdered-nil;
+  kept = λ j l a b d e first none. absurd (omega arith);
   below = λ j i a none. absurd (omega arith);
   reached = λ core. inl (zero core);
 }
@@ -136,30 +199,6 @@ pub no_bounds : (history : List Access) (order bounds : List ℕ) (cores : ℕ) 
 no_bounds history order bounds cores is count =
     bounded-none history order bounds (ap length is ∙ length-replicate cores 0 ∙ count)
     (λ core. ap (λ (xs : List ℕ). get_or xs core 0) is ∙ zero_at cores core)
-
--- an access that isn't before its core's bound is in order behind those that were read
-in_order : (word : WordAddr) (history : List Access) (order bounds : List ℕ) (k i : ℕ) (a : Access)
-    → IsBounded history order k bounds → k < length order → get_or bounds a.core.0 0 ≤ i
-    → All (λ d. IsAfter d (entry_of word i a)) (trace_of word history (take k order))
-in_order word history order bounds k i a so_far within above = λ j d under.
-    let size : length (take k order) ≡ k = length-take-le k order (omega arith) in
-    let count : length (trace_of word history (take k order)) ≡ length (take k order) =
-    length-map (take k order) (entry_at word history) in
-    let before : j < k = omega arith in
-    let number : ℕ = get_or order j 0 in
-    let stands : slice_get order j ≡ Some number = slice_get-get_or order j 0 (omega arith) in
-    let inside : number < length history = so_far.within j number before stands in
-    let read : get_or (take k order) j 0 ≡ number = get_or-take k order j 0 before in
-    let entry : get_or (trace_of word history (take k order)) j d ≡ entry_at word history number =
-    get_or-map (entry_at word history) (take k order) j 0 d (omega arith) ∙ ap (entry_at word history) read in
-    let other : Access = get_or history number no_access in
-    let less : number < get_or bounds other.core.0 0 =
-    so_far.below j number other before stands (slice_get-get_or history number no_access inside) in
-    subst (λ (e : Entry). IsAfter e (entry_of word i a)) (sym entry)
-    (λ same line.
-    let bound : get_or bounds other.core.0 0 ≡ get_or bounds a.core.0 0 =
-    ap (λ (core : CoreId). get_or bounds core.0 0) same in
-    omega arith)
 
 module _ (history : List Access) (order bounds : List ℕ) (k i : ℕ) (a : Access) (stands : slice_get order k ≡ Some i)
     (here : slice_get history i ≡ Some a) (core : a.core.0 < 256) (above : get_or bounds a.core.0 0 ≤ i)
@@ -241,42 +280,91 @@ module _ (history : List Access) (order bounds : List ℕ) (k i : ℕ) (a : Acce
     | inr other ↦ reached_before core other (so_far.reached core)
   ]
 
+  cores_more : (j l m n : ℕ) (d e : Access) → j < l → l < k + 1 → slice_get order j ≡ Some m → slice_get order l ≡ Some n
+      → slice_get history m ≡ Some d → slice_get history n ≡ Some e → d.core.0 ≡ e.core.0 → m < n
+  cores_more j l m n d e first under at_first at_last one two same = elim (cases_order l k) [
+    | inl last ↦
+        let n_is : n ≡ i = last_one l n last at_last in
+        let e_is : e ≡ a = same_Some e a (sym two ∙ ap (λ x. slice_get history x) n_is ∙ here) in
+        let less : m < get_or bounds d.core.0 0 = so_far.below j m d (omega arith) at_first one in
+        let core_is : d.core.0 ≡ a.core.0 = same ∙ ap (λ (x : Access). x.core.0) e_is in
+        let bound : get_or bounds d.core.0 0 ≡ get_or bounds a.core.0 0 = ap (λ x. get_or bounds x 0) core_is in
+        omega arith
+    | inr (inl before) ↦ so_far.kept j l m n d e first before at_first at_last one two same
+    | inr (inr over) ↦ absurd (omega arith)
+  ]
+
   pub bounded-more : IsBounded history order (k + 1) (set bounds a.core.0 (i + 1))
   bounded-more = record {
     size = length-set bounds a.core.0 (i + 1) ∙ so_far.size;
     within = within_more;
-    ordered = λ word.
-        rw (trace_of-more word history order k i a stands here)
-        (IsOrdered-push (trace_of word history (take k order)) (entry_of word i a) (so_far.ordered word)
-        (in_order word history order bounds k i a so_far (slice_get_within order k i stands) above) (omega arith));
+    kept = cores_more;
     below = below_more;
     reached = reached_more;
   }
 
 pub bounded-all : (history : List Access) (order bounds : List ℕ) (k : ℕ) → length order ≤ k
-    → IsBounded history order k bounds → (word : WordAddr) → IsOrdered (trace_of word history order)
-bounded-all history order bounds k all so_far word =
-    let whole = take_all k order all in rw whole at (so_far.ordered word)
+    → IsBounded history order k bounds → KeepsCores history order
+bounded-all history order bounds k all so_far = λ j l a b d e first at_first at_last.
+    let inside : l < length order = slice_get_within order l b at_last in
+    so_far.kept j l a b d e first (omega arith) at_first at_last
 
-same_core : (d e : Access) → d.core.0 ≡ e.core.0 → d.core ≡ e.core
-same_core d e number = ap (λ (n : ℕ). let c : CoreId = record { 0 = n } in c) number
+-- the access that an entry of a trace performs
+record IsEntryOf (history : List Access) (order : List ℕ) (k : ℕ) (e : Entry) : Type 0 where
+  number : ℕ
+  access : Access
+  stands : slice_get order k ≡ Some number
+  here : slice_get history number ≡ Some access
+  is : e ≡ entry_of number access
 
--- an order in which an access stands below its core's bound isn't ordered
+entry_from : (history : List Access) (order : List ℕ) → HasEachOnce (length history) order → (k : ℕ) (e : Entry)
+    → slice_get (trace_of history order) k ≡ Some e → IsEntryOf history order k e
+entry_from history order each k e at_place =
+    let within : k < length (trace_of history order) = slice_get_within (trace_of history order) k e at_place in
+    let size : length (trace_of history order) ≡ length order = length-map order (entry_at history) in
+    let inside : k < length order = omega arith in
+    let stands = slice_get-get_or order k 0 inside in
+    let here = slice_get-get_or history (get_or order k 0) no_access (each.within k (get_or order k 0) stands) in
+    record {
+      number = get_or order k 0;
+      access = get_or history (get_or order k 0) no_access;
+      stands = stands;
+      here = here;
+      is =
+          same_Some e (entry_of (get_or order k 0) (get_or history (get_or order k 0) no_access))
+          (sym at_place
+          ∙ trace_of-at history order k (get_or order k 0) (get_or history (get_or order k 0) no_access) stands here);
+    }
+
+-- an order in which an access stands below its core's bound doesn't keep the core's
 pub not_ordered : (history : List Access) (order bounds : List ℕ) (k i : ℕ) (a : Access) → slice_get order k ≡ Some i
     → slice_get history i ≡ Some a → i < get_or bounds a.core.0 0 → IsBounded history order k bounds
-    → (word : WordAddr) → IsOrdered (trace_of word history order) → ⊥
-not_ordered history order bounds k i a stands here under so_far word ordered =
-    elim (so_far.reached a.core.0) [
-      | inl zero ↦ omega arith
-      | inr was ↦
-          let after : IsAfter (entry_of word was.number was.access) (entry_of word i a) =
-          ordered.core_order was.place k (entry_of word was.number was.access) (entry_of word i a) was.before
-          (trace_of-at word history order was.place was.number was.access was.stands was.here)
-          (trace_of-at word history order k i a stands here) in
-          let above : was.number < i = after (same_core was.access a was.of_core) refl in
-          let bound : get_or bounds a.core.0 0 ≡ was.number + 1 = was.bound in
-          omega arith
-    ]
+    → KeepsCores history order → ⊥
+not_ordered history order bounds k i a stands here under so_far keeps = elim (so_far.reached a.core.0) [
+  | inl zero ↦ omega arith
+  | inr was ↦
+      let above : was.number < i =
+      keeps was.place k was.number i was.access a was.before was.stands stands was.here here was.of_core in
+      let bound : get_or bounds a.core.0 0 ≡ was.number + 1 = was.bound in
+      omega arith
+]
+
+-- a trace whose entries name their accesses by their places is ordered, where each core's order is kept
+pub ordered_of : (history : List Access) (order : List ℕ) → HasEachOnce (length history) order
+    → KeepsCores history order → IsOrdered (trace_of history order)
+ordered_of history order each keeps = record {
+  core_order = λ j k d e first at_first at_last same line.
+      let one = entry_from history order each j d at_first in
+      let two = entry_from history order each k e at_last in
+      let less : one.number < two.number =
+      keeps j k one.number two.number one.access two.access first one.stands two.stands one.here two.here
+      (ap (λ (x : Entry). x.core.0) (sym one.is) ∙ ap (λ (c : CoreId). c.0) same ∙ ap (λ (x : Entry). x.core.0) two.is) in
+      subst (λ (x : Entry). x.seq < e.seq) (sym one.is)
+      (subst (λ (x : Entry). one.number < x.seq) (sym two.is) less);
+  since = λ k e here.
+      let it = entry_from history order each k e here in
+      subst (λ (x : Entry). x.since ≤ k) (sym it.is) (omega arith);
+}
 
 -- ---- intervals
 
@@ -385,3 +473,18 @@ not_kept history order k i latest x stands here early so_far keeps =
           let begin : was.access.begin ≡ latest = was.begin in
           omega arith
     ]
+
+-- an order that keeps all else is one where each reply is explained
+pub is_order_of : (initial : ℕ → ℕ) (history : List Access) (order : List ℕ) (Yes : Type 0)
+    → HasEachOnce (length history) order → KeepsCores history order → KeepsIntervals history order
+    → (Yes ↔ IsLegal initial (trace_of history order)) → Yes ↔ IsOrderOf initial history order
+is_order_of initial history order Yes each cores intervals legal = (
+  λ yes. record {
+    each_once = each;
+    legal = legal.0 yes;
+    cores = cores;
+    ordered = ordered_of history order each cores;
+    intervals = intervals;
+  },
+  λ is. legal.1 is.legal,
+)

@@ -1,6 +1,5 @@
--- What an access of a history found in its word, what it left there, and the entry of a trace that performs it.
+-- What an access of a history found in a word, what it left there, and the entry of a trace that performs it.
 use Rattle.std.specs.Prelude.{ℕ, ◌+◌, ◌%◌, ◌^◌, ◌==◌, if◌then◌else◌, Option, Some, None}
-use Rattle.address_map.specs.declared.address.WordAddr.{WordAddr}
 use Rattle.address_map.specs.declared.request.Op.{Op}
 use Rattle.address_map.specs.declared.request.Op.TheVariants as ops
 use Rattle.slice_log.specs.declared.entry.Entry.{Entry}
@@ -8,10 +7,10 @@ use Rattle.history_judge.specs.declared.access.Access.{Access}
 
 -- The entry that performs an access. Its seq is the access's place in the history, so a core's entries stand in its
 -- order where their seqs ascend.
-abbrev pub entry_of : WordAddr → ℕ → Access → Entry
-entry_of word number a = record {
+abbrev pub entry_of : ℕ → Access → Entry
+entry_of number a = record {
   op = a.op;
-  word = word;
+  word = a.word;
   seq = number;
   reply = a.reply;
   since = 0;
@@ -39,3 +38,10 @@ left_by ops.Load reply = None
 left_by (ops.Store new) reply = Some (new % 2 ^ 64)
 left_by (ops.Add delta) reply = changed reply ((reply + delta) % 2 ^ 64)
 left_by (ops.Cas expect new) reply = changed reply (if reply == expect then new % 2 ^ 64 else reply)
+
+-- what an access found in this word, and what it left there: nothing, if it is of another
+abbrev pub found_in : ℕ → Access → Option ℕ
+found_in w a = if a.word.0 == w then found_by a else None
+
+abbrev pub left_in : ℕ → Access → Option ℕ
+left_in w a = if a.word.0 == w then left_by a.op a.reply else None

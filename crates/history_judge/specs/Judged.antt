@@ -1,13 +1,12 @@
 -- What a history comes to.
 use Rattle.std.specs.Prelude.{ℕ, List}
-use Rattle.address_map.specs.declared.address.WordAddr.{WordAddr}
 use Rattle.history_judge.specs.Order.{IsOrderOf, HasNoOrder}
 use Rattle.history_judge.specs.declared.access.Access.{Access}
 use Rattle.history_judge.specs.declared.verdict.Judgement.{Judgement}
 use Rattle.history_judge.specs.declared.verdict.Judgement.TheVariants as judgements
 
 -- an order is answered only where it is one, and a contradiction only where there is no order
-abbrev pub IsJudged : WordAddr → ℕ → List Access → Judgement → Type 0
-IsJudged word initial history (judgements.Coherent order) = IsOrderOf word initial history order.items
-IsJudged word initial history (judgements.Incoherent reason) = HasNoOrder word initial history
-IsJudged word initial history judgements.Undecided = Unit {0}
+abbrev pub IsJudged : (ℕ → ℕ) → List Access → Judgement → Type 0
+IsJudged initial history (judgements.Coherent order) = IsOrderOf initial history order.items
+IsJudged initial history (judgements.Incoherent reason) = HasNoOrder initial history
+IsJudged initial history judgements.Undecided = Unit {0}

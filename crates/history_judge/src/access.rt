@@ -1,10 +1,10 @@
 ghost use Rattle.std.specs.Prelude.{◌≡◌, ◌+◌, ◌<◌, ◌^◌, IsSome, slice_get};
-ghost use Rattle.history_judge.specs.Access.{changed, entry_of, found_by, left_by};
+ghost use Rattle.history_judge.specs.Access.{changed, entry_of, found_by, found_in, left_by, left_in};
 
 use address_map::{CoreId, Op, WordAddr};
 use slice_log::{Entry, performed};
 
-/// One access of a word, as its core saw it.
+/// One access, as its core saw it.
 #[derive(Clone, Copy, Debug, PartialEq, Eq)]
 pub struct Access {
     pub op: Op,
@@ -13,30 +13,33 @@ pub struct Access {
     /// ended at `u64::MAX`.
     pub begin: u64,
     pub end: u64,
+    pub word: WordAddr,
     pub core: CoreId,
 }
 
 impl Access {
     /// Returns an access of which it isn't known when it began and ended.
-    pub fn untimed(core: CoreId, op: Op, reply: u64) -> Self
-        ensures { result ≡ record { op = op; reply = reply; begin = 0; end = u64.MAX; core = core } }
+    pub fn untimed(core: CoreId, word: WordAddr, op: Op, reply: u64) -> Self
+        ensures { result
+            ≡ record { op = op; reply = reply; begin = 0; end = u64.MAX; word = word; core = core } }
     {
         Access {
             op,
             reply,
             begin: 0,
             end: u64::MAX,
+            word,
             core,
         }
     }
 
     /// Returns the entry of a trace that performs the access, which has this place in its history.
-    pub fn entry(&self, word: WordAddr, number: usize) -> Entry
-        ensures { result ≡ entry_of word number self.now }
+    pub fn entry(&self, number: usize) -> Entry
+        ensures { result ≡ entry_of number self.now }
     {
         Entry {
             op: self.op,
-            word,
+            word: self.word,
             seq: number as u64,
             reply: self.reply,
             since: 0,
@@ -45,7 +48,7 @@ impl Access {
         }
     }
 
-    /// Returns the value that the access found in the word, which a store doesn't tell.
+    /// Returns the value that the access found in its word, which a store doesn't tell.
     pub fn found(&self) -> Option<u64>
         ensures { result ≡ found_by self.now }
     {
@@ -57,7 +60,7 @@ impl Access {
         }
     }
 
-    /// Returns the value that the access left in the word, unless it is the one that it found.
+    /// Returns the value that the access left in its word, unless it is the one that it found.
     pub fn left(&self) -> Option<u64>
         ensures { result ≡ left_by self.now.op self.now.reply }
     {
@@ -66,6 +69,30 @@ impl Access {
             Op::Store(_) => Some(performed(self.op, self.reply)),
             Op::Add(_) => changed(self.reply, performed(self.op, self.reply)),
             Op::Cas { .. } => changed(self.reply, performed(self.op, self.reply)),
+        }
+    }
+}
+
+impl Access {
+    /// Returns the value that the access found in this word.
+    pub fn found_in(&self, word: WordAddr) -> Option<u64>
+        ensures { result ≡ found_in word.0 self.now }
+    {
+        if self.word.0 == word.0 {
+            self.found()
+        } else {
+            None
+        }
+    }
+
+    /// Returns the value that the access left in this word, unless it is the one that it found.
+    pub fn left_in(&self, word: WordAddr) -> Option<u64>
+        ensures { result ≡ left_in word.0 self.now }
+    {
+        if self.word.0 == word.0 {
+            self.left()
+        } else {
+            None
         }
     }
 }

@@ -1,6 +1,7 @@
-//! Judges a history of one word: what each core asked of the word and was answered, in the core's own order, without
-//! the order in which accesses of several cores were performed. Is there an order of all of them that explains each
-//! reply, keeps each core's own, and has an access that ended before another began before it?
+//! Judges a history of one word, or of several that are asked to have one order: what each core asked and was answered,
+//! in the core's own order, without the order in which accesses of several cores were performed. Is there an order of
+//! all of them that explains each reply, keeps each core's own, and has an access that ended before another began before
+//! it?
 //!
 //! - [`judge`] answers [`Judgement::Coherent`] with such an order (`IsOrderOf` of specs/Order.antt),
 //!   [`Judgement::Incoherent`] where there is none, with the contradiction, or [`Judgement::Undecided`].
@@ -9,15 +10,17 @@
 //! - [`trace`] is the trace of an order, which is legal and ordered in `slice_log`'s sense.
 //!
 //! Where each value that is read was left by one access alone and isn't the initial one, `judge` goes over the history
-//! a few times, sorts it, and decides. Else it tries orders, up to a limit.
+//! of a word a few times, sorts it, and decides. Else, and where several words are to have one order, it tries orders,
+//! up to a limit.
 #![tactic(auto)]
 
 pub use access::Access;
 pub use order::{is_order, trace};
-pub use refutation::{Circle, Contradiction, Link, Step, Why, is_refuted};
+pub use refutation::{Chain, Contradiction, Link, Step, Why, is_refuted};
 pub use verdict::{Judgement, judge};
 
 mod access;
+mod initial;
 mod order;
 mod refutation;
 mod search;

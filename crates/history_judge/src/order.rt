@@ -1,42 +1,38 @@
-ghost use Rattle.std.specs.Prelude.{◌≡◌, ◌<◌, ◌↔◌, ℕ, IfOk, IsTrue, All, is_some, length, slice_get};
-ghost use Rattle.address_map.specs.declared.address.WordAddr.{WordAddr};
-ghost use Rattle.slice_log.specs.Log.{IsLegal, IsOrdered};
-ghost use Rattle.history_judge.specs.Order.{HasEachOnce, IsOrderOf, KeepsIntervals, trace_of};
+ghost use Rattle.std.specs.Prelude.{◌≡◌, ◌<◌, ◌↔◌, ℕ, IfOk, IsTrue, All, is_some, length, nat_eq, slice_get, unwrap_or};
+ghost use Rattle.std.specs.HashMap.{get};
+ghost use Rattle.slice_log.specs.Log.{IsLegal, initially};
+ghost use Rattle.history_judge.specs.Order.{HasEachOnce, IsOrderOf, KeepsCores, KeepsIntervals, trace_of};
 
 use super::access::{Access, access_at};
+use super::initial::initial_of;
 use address_map::WordAddr;
 use slice_log::{Entry, performed, reply_to};
 use std::alloc::{AllocError, Global};
+use std::collections::HashMap;
 
 /// How many cores can be named.
 const CORES: usize = 256;
 
 /// Returns the trace that performs the accesses in this order.
-pub fn trace(
-    alloc: Global,
-    word: WordAddr,
-    history: &[Access],
-    order: &[usize],
-) -> Result<Vec<Entry>, AllocError>
+pub fn trace(alloc: Global, history: &[Access], order: &[usize]) -> Result<Vec<Entry>, AllocError>
     requires { All (λ i. i < length history.now) order.now }
-    ensures { IfOk result (λ it. it.items ≡ trace_of word history.now order.now) }
+    ensures { IfOk result (λ it. it.items ≡ trace_of history.now order.now) }
 {
     let mut entries = Vec::new(alloc);
     for place in order {
-        entries.push(history[*place].entry(word, *place))?;
+        entries.push(history[*place].entry(*place))?;
     }
     Ok(entries)
 }
 
-/// Whether the accesses may have been performed in this order, from this value of the word.
+/// Whether the accesses may have been performed in this order, where words begin with these values, and others with 0.
 pub fn is_order(
     alloc: Global,
-    word: WordAddr,
-    initial: u64,
+    initial: &[(WordAddr, u64)],
     history: &[Access],
     order: &[usize],
 ) -> Result<bool, AllocError>
-    ensures { IfOk result (λ yes. IsTrue yes ↔ IsOrderOf word initial history.now order.now) }
+    ensures { IfOk result (λ yes. IsTrue yes ↔ IsOrderOf (initially initial.now) history.now order.now) }
 {
     if !has_each_once(alloc, history.len(), order)? {
         return Ok(false);
@@ -47,7 +43,7 @@ pub fn is_order(
     if !keeps_intervals(history, order) {
         return Ok(false);
     }
-    Ok(explains_replies(initial, history, order))
+    explains_replies(alloc, initial, history, order)
 }
 
 // Whether the order has each of so many accesses once.
@@ -79,28 +75,45 @@ fn has_all(places: &[Option<usize>]) -> bool
     places.iter().all(|place| place.is_some())
 }
 
-// Whether each reply is the one that the word's value gives.
-fn explains_replies(initial: u64, history: &[Access], order: &[usize]) -> bool
-    ensures { (word : WordAddr) → HasEachOnce (length history.now) order.now
-        → (IsTrue result ↔ IsLegal (λ _. initial) (trace_of word history.now order.now)) }
+// Whether each reply is the one that its word's value gives.
+fn explains_replies(
+    alloc: Global,
+    initial: &[(WordAddr, u64)],
+    history: &[Access],
+    order: &[usize],
+) -> Result<bool, AllocError>
+    ensures { IfOk result (λ yes. HasEachOnce (length history.now) order.now
+        → (IsTrue yes ↔ IsLegal (initially initial.now) (trace_of history.now order.now))) }
 {
-    let mut value = initial;
+    // the value of each word of which an access was met
+    let mut values = HashMap::new(alloc);
     for place in order {
         let Some(access) = access_at(history, *place) else {
-            return false;
+            return Ok(false);
         };
+        let value = value_of(&values, initial, access.word);
         if access.reply != reply_to(access.op, value) {
-            return false;
+            return Ok(false);
         }
-        value = performed(access.op, value);
+        values.insert(access.word.0, performed(access.op, value))?;
     }
-    true
+    Ok(true)
+}
+
+// The value that a word has now.
+fn value_of(values: &HashMap<u64, u64>, initial: &[(WordAddr, u64)], word: WordAddr) -> u64
+    ensures { result ≡ unwrap_or (get nat_eq values.now word.0) (initially initial.now word.0) }
+{
+    match values.get(&word.0).copied() {
+        Some(value) => value,
+        None => initial_of(initial, word),
+    }
 }
 
 // Whether each core's accesses stand in its order.
 fn keeps_cores(alloc: Global, history: &[Access], order: &[usize]) -> Result<bool, AllocError>
-    ensures { IfOk result (λ yes. (word : WordAddr) → HasEachOnce (length history.now) order.now
-        → (IsTrue yes ↔ IsOrdered (trace_of word history.now order.now))) }
+    ensures { IfOk result (λ yes. HasEachOnce (length history.now) order.now
+        → (IsTrue yes ↔ KeepsCores history.now order.now)) }
 {
     // each access of a core that was met is before its bound
     let mut bounds = vec![in alloc; 0; CORES]?;

@@ -1,11 +1,13 @@
-ghost use Rattle.std.specs.Prelude.{◌≡◌, ◌≢◌, ◌<◌, ℕ, IsTrue, IfOk, IfSome, length, slice_get, Some};
-ghost use Rattle.address_map.specs.declared.address.WordAddr.{WordAddr};
+ghost use Rattle.std.specs.Prelude.{◌≡◌, ◌≢◌, ◌<◌, ℕ, All, IsTrue, IfOk, IfSome, length, slice_get, Some};
+ghost use Rattle.slice_log.specs.Log.{initially};
 ghost use Rattle.history_judge.specs.Order.{HasNoOrder};
 ghost use Rattle.history_judge.specs.Before.{IsBeforeIn, IsInitialAlone, IsSourceOf, IsWrite, found_at};
-ghost use Rattle.history_judge.specs.Writers.{IsTableOf};
+ghost use Rattle.history_judge.specs.Writers.{AreTablesOf};
 
 use super::access::{Access, access_at};
-use super::writers::{Writer, Writers};
+use super::initial::initial_of;
+use super::writers::{Tables, Writer};
+use address_map::WordAddr;
 use std::alloc::{AllocError, Global};
 
 /// Why no order explains a history.
@@ -13,13 +15,14 @@ use std::alloc::{AllocError, Global};
 pub enum Contradiction {
     /// This access found a value that isn't the initial one and that no access left.
     Unwritten(usize),
-    /// An access would have to be performed before itself.
-    Circle(Circle),
+    /// An access would have to be performed before itself: the last chain leads back to where it begins, and links of a
+    /// chain may be what those before it came to.
+    Circle(Vec<Chain>),
 }
 
-/// Steps from one access before another up to an access before itself.
+/// Steps from one access before another to what follows.
 #[derive(Debug, Drop)]
-pub struct Circle {
+pub struct Chain {
     pub start: Link,
     pub steps: Vec<Step>,
 }
@@ -42,6 +45,8 @@ pub enum Why {
     Source,
     /// The one found the initial value, which no access leaves, and the other changes the word.
     Initial,
+    /// The chain of this number, from 0, came to that.
+    Shown(usize),
 }
 
 /// What follows, where a first access comes before a last one.
@@ -55,84 +60,128 @@ pub enum Step {
     Lower(usize),
 }
 
-/// Whether the contradiction shows that no order explains the history.
+/// Whether the contradiction shows that no order explains the history, where words begin with these values, and others
+/// with 0.
 pub fn is_refuted(
     alloc: Global,
-    initial: u64,
+    initial: &[(WordAddr, u64)],
     history: &[Access],
     reason: &Contradiction,
 ) -> Result<bool, AllocError>
-    ensures { IfOk result (λ yes. (word : WordAddr) → IsTrue yes → HasNoOrder word initial history.now) }
+    ensures { IfOk result (λ yes. IsTrue yes → HasNoOrder (initially initial.now) history.now) }
 {
-    let writers = Writers::of(alloc, history)?;
-    Ok(match reason {
-        Contradiction::Unwritten(access) => is_unwritten(initial, history, &writers, *access),
-        Contradiction::Circle(circle) => is_circle(initial, history, &writers, circle),
-    })
+    let tables = Tables::of(alloc, history)?;
+    match reason {
+        Contradiction::Unwritten(access) => Ok(is_unwritten(initial, history, &tables, *access)),
+        Contradiction::Circle(chains) => is_circle(alloc, initial, history, &tables, chains),
+    }
 }
 
 // Whether the access found a value that isn't the initial one and that no access left.
-fn is_unwritten(initial: u64, history: &[Access], writers: &Writers, place: usize) -> bool
-    requires { IsTableOf writers.now history.now }
-    ensures { (word : WordAddr) → IsTrue result → HasNoOrder word initial history.now }
+fn is_unwritten(
+    initial: &[(WordAddr, u64)],
+    history: &[Access],
+    tables: &Tables,
+    place: usize,
+) -> bool
+    requires { AreTablesOf tables.now history.now }
+    ensures { IsTrue result → HasNoOrder (initially initial.now) history.now }
 {
-    match found_at(history, place) {
-        Some(value) => value != initial && writers.get(value).is_none(),
-        None => false,
+    let Some(access) = access_at(history, place) else {
+        return false;
+    };
+    let word = access.word;
+    match (found_at(word, history, place), tables.of_word(word)) {
+        (Some(value), Some(writers)) => {
+            value != initial_of(initial, word) && writers.get(value).is_none()
+        }
+        _ => false,
     }
 }
 
-// Whether the steps lead from an access back to itself.
-fn is_circle(initial: u64, history: &[Access], writers: &Writers, circle: &Circle) -> bool
-    requires { IsTableOf writers.now history.now }
-    ensures { (word : WordAddr) → IsTrue result → HasNoOrder word initial history.now }
+// Whether one of the chains leads from an access back to itself.
+fn is_circle(
+    alloc: Global,
+    initial: &[(WordAddr, u64)],
+    history: &[Access],
+    tables: &Tables,
+    chains: &[Chain],
+) -> Result<bool, AllocError>
+    requires { AreTablesOf tables.now history.now }
+    ensures { IfOk result (λ yes. IsTrue yes → HasNoOrder (initially initial.now) history.now) }
 {
-    let Link { first, last, why } = circle.start;
-    if !comes_first(initial, history, writers, first, last, why) {
-        return false;
+    let mut shown = Vec::new(alloc);
+    for chain in chains {
+        let Some(pair) = shown_by(initial, history, tables, &shown, chain) else {
+            return Ok(false);
+        };
+        if pair.0 == pair.1 {
+            return Ok(true);
+        }
+        shown.push(pair)?;
+    }
+    Ok(false)
+}
+
+// The two accesses of which the chain shows that the one comes before the other.
+fn shown_by(
+    initial: &[(WordAddr, u64)],
+    history: &[Access],
+    tables: &Tables,
+    shown: &[(usize, usize)],
+    chain: &Chain,
+) -> Option<(usize, usize)>
+    requires tables { AreTablesOf tables.now history.now }
+    requires shown { All (λ pair. IsBeforeIn (initially initial.now) history.now pair.0 pair.1) shown.now }
+    ensures { IfSome result (λ pair. IsBeforeIn (initially initial.now) history.now pair.0 pair.1) }
+{
+    let Link { first, last, why } = chain.start;
+    if !comes_first(initial, history, tables, shown, first, last, why) {
+        return None;
     }
     let (mut first, mut last) = (first, last);
-    for step in &circle.steps {
-        let Some((next_first, next_last)) = followed(initial, history, writers, first, last, *step)
-        else {
-            return false;
-        };
+    for step in &chain.steps {
+        let (next_first, next_last) = followed(
+            initial, history, tables, shown, first, last, *step,
+        )?;
         first = next_first;
         last = next_last;
     }
-    first == last
+    Some((first, last))
 }
 
 // The two accesses after a step.
 fn followed(
-    initial: u64,
+    initial: &[(WordAddr, u64)],
     history: &[Access],
-    writers: &Writers,
+    tables: &Tables,
+    shown: &[(usize, usize)],
     first: usize,
     last: usize,
     step: Step,
 ) -> Option<(usize, usize)>
-    requires { IsTableOf writers.now history.now }
-    ensures { (word : WordAddr) → IsBeforeIn word initial history.now first last
-        → IfSome result (λ pair. IsBeforeIn word initial history.now pair.0 pair.1) }
+    requires tables { AreTablesOf tables.now history.now }
+    requires shown { All (λ pair. IsBeforeIn (initially initial.now) history.now pair.0 pair.1) shown.now }
+    requires known { IsBeforeIn (initially initial.now) history.now first last }
+    ensures { IfSome result (λ pair. IsBeforeIn (initially initial.now) history.now pair.0 pair.1) }
 {
     match step {
         Step::Next(access, why) => {
-            if comes_first(initial, history, writers, last, access, why) {
+            if comes_first(initial, history, tables, shown, last, access, why) {
                 Some((first, access))
             } else {
                 None
             }
         }
         Step::Raise(access) => {
-            if is_raised(initial, history, writers, first, last, access) {
+            if is_raised(initial, history, tables, first, last, access) {
                 Some((access, last))
             } else {
                 None
             }
         }
         Step::Lower(access) => {
-            if is_lowered(initial, history, writers, first, last, access) {
+            if is_lowered(initial, history, tables, first, last, access) {
                 Some((first, access))
             } else {
                 None
@@ -143,21 +192,24 @@ fn followed(
 
 // Whether the access found what the first left, which the last overwrites.
 fn is_raised(
-    initial: u64,
+    initial: &[(WordAddr, u64)],
     history: &[Access],
-    writers: &Writers,
+    tables: &Tables,
     first: usize,
     last: usize,
     access: usize,
 ) -> bool
-    requires { IsTableOf writers.now history.now }
-    ensures { (word : WordAddr) → IsTrue result → IsBeforeIn word initial history.now first last
-        → IsBeforeIn word initial history.now access last }
+    requires { AreTablesOf tables.now history.now }
+    ensures { IsTrue result → IsBeforeIn (initially initial.now) history.now first last
+        → IsBeforeIn (initially initial.now) history.now access last }
 {
-    if !is_write(history, last) {
+    let Some(reader) = access_at(history, access) else {
+        return false;
+    };
+    if !is_write(reader.word, history, last) {
         return false;
     }
-    if !is_source(initial, history, writers, first, access) {
+    if !is_source(initial, reader.word, history, tables, first, access) {
         return false;
     }
     access != last
@@ -165,21 +217,24 @@ fn is_raised(
 
 // Whether the last found what the access left, which the first can't have overwritten.
 fn is_lowered(
-    initial: u64,
+    initial: &[(WordAddr, u64)],
     history: &[Access],
-    writers: &Writers,
+    tables: &Tables,
     first: usize,
     last: usize,
     access: usize,
 ) -> bool
-    requires { IsTableOf writers.now history.now }
-    ensures { (word : WordAddr) → IsTrue result → IsBeforeIn word initial history.now first last
-        → IsBeforeIn word initial history.now first access }
+    requires { AreTablesOf tables.now history.now }
+    ensures { IsTrue result → IsBeforeIn (initially initial.now) history.now first last
+        → IsBeforeIn (initially initial.now) history.now first access }
 {
-    if !is_write(history, first) {
+    let Some(reader) = access_at(history, last) else {
+        return false;
+    };
+    if !is_write(reader.word, history, first) {
         return false;
     }
-    if !is_source(initial, history, writers, access, last) {
+    if !is_source(initial, reader.word, history, tables, access, last) {
         return false;
     }
     access != first
@@ -187,39 +242,72 @@ fn is_lowered(
 
 // Whether the one access comes before the other for this reason.
 fn comes_first(
-    initial: u64,
+    initial: &[(WordAddr, u64)],
     history: &[Access],
-    writers: &Writers,
+    tables: &Tables,
+    shown: &[(usize, usize)],
     first: usize,
     last: usize,
     why: Why,
 ) -> bool
-    requires { IsTableOf writers.now history.now }
-    ensures { (word : WordAddr) → IsTrue result → IsBeforeIn word initial history.now first last }
+    requires tables { AreTablesOf tables.now history.now }
+    requires shown { All (λ pair. IsBeforeIn (initially initial.now) history.now pair.0 pair.1) shown.now }
+    ensures { IsTrue result → IsBeforeIn (initially initial.now) history.now first last }
 {
     match why {
         Why::Core => is_asked_first(history, first, last),
         Why::Interval => is_ended_first(history, first, last),
-        Why::Source => is_source(initial, history, writers, first, last),
-        Why::Initial => is_initial_first(initial, history, writers, first, last),
+        Why::Source => is_found_first(initial, history, tables, first, last),
+        Why::Initial => is_initial_first(initial, history, tables, first, last),
+        Why::Shown(number) => is_shown(shown, number, first, last),
+    }
+}
+
+// Whether the chain of this number came to that.
+fn is_shown(shown: &[(usize, usize)], number: usize, first: usize, last: usize) -> bool
+    ensures { IsTrue result → slice_get shown.now number ≡ Some (first, last) }
+{
+    match shown.get(number) {
+        Some(pair) => pair.0 == first && pair.1 == last,
+        None => false,
+    }
+}
+
+// Whether the other found the value that the one alone left.
+fn is_found_first(
+    initial: &[(WordAddr, u64)],
+    history: &[Access],
+    tables: &Tables,
+    first: usize,
+    last: usize,
+) -> bool
+    requires { AreTablesOf tables.now history.now }
+    ensures { IsTrue result → IsBeforeIn (initially initial.now) history.now first last }
+{
+    match access_at(history, last) {
+        Some(reader) => is_source(initial, reader.word, history, tables, first, last),
+        None => false,
     }
 }
 
 // Whether the one found the initial value, which no access leaves, and the other changes the word.
 fn is_initial_first(
-    initial: u64,
+    initial: &[(WordAddr, u64)],
     history: &[Access],
-    writers: &Writers,
+    tables: &Tables,
     first: usize,
     last: usize,
 ) -> bool
-    requires { IsTableOf writers.now history.now }
-    ensures { (word : WordAddr) → IsTrue result → IsBeforeIn word initial history.now first last }
+    requires { AreTablesOf tables.now history.now }
+    ensures { IsTrue result → IsBeforeIn (initially initial.now) history.now first last }
 {
-    if !is_write(history, last) {
+    let Some(reader) = access_at(history, first) else {
+        return false;
+    };
+    if !is_write(reader.word, history, last) {
         return false;
     }
-    if !is_initial(initial, history, writers, first) {
+    if !is_initial(initial, reader.word, history, tables, first) {
         return false;
     }
     first != last
@@ -227,19 +315,17 @@ fn is_initial_first(
 
 // Whether both are of one core, in this order.
 fn is_asked_first(history: &[Access], first: usize, last: usize) -> bool
-    ensures { (word : WordAddr) (initial : ℕ) → IsTrue result
-        → IsBeforeIn word initial history.now first last }
+    ensures { (initial : ℕ → ℕ) → IsTrue result → IsBeforeIn initial history.now first last }
 {
     match (access_at(history, first), access_at(history, last)) {
-        (Some(one), Some(other)) => one.core == other.core && first < last,
+        (Some(one), Some(other)) => one.core.0 == other.core.0 && first < last,
         _ => false,
     }
 }
 
 // Whether the one ended before the other began.
 fn is_ended_first(history: &[Access], first: usize, last: usize) -> bool
-    ensures { (word : WordAddr) (initial : ℕ) → IsTrue result
-        → IsBeforeIn word initial history.now first last }
+    ensures { (initial : ℕ → ℕ) → IsTrue result → IsBeforeIn initial history.now first last }
 {
     match (access_at(history, first), access_at(history, last)) {
         (Some(one), Some(other)) => one.end < other.begin && first != last,
@@ -247,52 +333,65 @@ fn is_ended_first(history: &[Access], first: usize, last: usize) -> bool
     }
 }
 
-// Whether the one found the value that the other alone left, which isn't the initial one.
+// Whether the reader found the value of the word that the source alone left, which isn't the initial one.
 fn is_source(
-    initial: u64,
+    initial: &[(WordAddr, u64)],
+    word: WordAddr,
     history: &[Access],
-    writers: &Writers,
+    tables: &Tables,
     source: usize,
     reader: usize,
 ) -> bool
-    requires { IsTableOf writers.now history.now }
-    ensures { IsTrue result → IsSourceOf initial history.now source reader }
+    requires { AreTablesOf tables.now history.now }
+    ensures { IsTrue result → IsSourceOf (initially initial.now) word.0 history.now source reader }
 {
-    let Some(value) = found_at(history, reader) else {
+    let Some(value) = found_at(word, history, reader) else {
+        return false;
+    };
+    let Some(writers) = tables.of_word(word) else {
         return false;
     };
     match writers.get(value) {
-        Some(Writer::One(writer)) => writer == source && value != initial,
+        Some(Writer::One(writer)) => writer == source && value != initial_of(initial, word),
         _ => false,
     }
 }
 
-// Whether the access found the initial value, and no access leaves that.
-fn is_initial(initial: u64, history: &[Access], writers: &Writers, place: usize) -> bool
-    requires { IsTableOf writers.now history.now }
-    ensures { IsTrue result → IsInitialAlone initial history.now place }
+// Whether the access found the word's initial value, and no access leaves that.
+fn is_initial(
+    initial: &[(WordAddr, u64)],
+    word: WordAddr,
+    history: &[Access],
+    tables: &Tables,
+    place: usize,
+) -> bool
+    requires { AreTablesOf tables.now history.now }
+    ensures { IsTrue result → IsInitialAlone (initially initial.now) word.0 history.now place }
 {
-    match found_at(history, place) {
-        Some(value) => value == initial && writers.get(initial).is_none(),
-        None => false,
-    }
+    let Some(value) = found_at(word, history, place) else {
+        return false;
+    };
+    let Some(writers) = tables.of_word(word) else {
+        return false;
+    };
+    value == initial_of(initial, word) && writers.get(value).is_none()
 }
 
 // Whether the access changes the word.
-fn is_write(history: &[Access], place: usize) -> bool
-    ensures { IsTrue result → IsWrite history.now place }
+fn is_write(word: WordAddr, history: &[Access], place: usize) -> bool
+    ensures { IsTrue result → IsWrite word.0 history.now place }
 {
     match access_at(history, place) {
-        Some(access) => access.left().is_some(),
+        Some(access) => access.left_in(word).is_some(),
         None => false,
     }
 }
 
-fn found_at(history: &[Access], place: usize) -> Option<u64>
-    ensures { result ≡ found_at history.now place }
+fn found_at(word: WordAddr, history: &[Access], place: usize) -> Option<u64>
+    ensures { result ≡ found_at word.0 history.now place }
 {
     match access_at(history, place) {
-        Some(access) => access.found(),
+        Some(access) => access.found_in(word),
         None => None,
     }
 }

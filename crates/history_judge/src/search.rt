@@ -3,35 +3,45 @@
 use super::access::Access;
 use super::refutation::Contradiction;
 use super::verdict::Judgement;
-use super::writers::Writers;
+use super::writers::Tables;
+use address_map::WordAddr;
+use closure::Closure;
 use clusters::{Chained, Clusters};
 use graph::Graph;
+use plan::Plan;
 use sources::Sources;
 use std::alloc::{AllocError, Global};
 use turns::Turns;
 
+mod chains;
 mod circle;
+mod closure;
 mod clusters;
 mod explore;
 mod graph;
 mod lists;
+mod plan;
 mod ranks;
 mod rows;
 mod shorten;
 mod sources;
+mod telling;
 mod turns;
 mod walk;
 
 /// Proposes a judgement of a history.
 pub fn proposed(
     alloc: Global,
-    initial: u64,
+    initial: &[(WordAddr, u64)],
     history: &[Access],
     limit: usize,
 ) -> Result<Judgement, AllocError> {
-    let sources = Sources::of(alloc, initial, history, &Writers::of(alloc, history)?)?;
+    let sources = Sources::of(alloc, initial, history, &Tables::of(alloc, history)?)?;
     if let Some(access) = sources.unwritten {
         return Ok(Judgement::Incoherent(Contradiction::Unwritten(access)));
+    }
+    if !is_of_one_word(history) {
+        return of_words(alloc, initial, history, &sources, limit);
     }
     match clustered(alloc, history, &sources)? {
         Judgement::Coherent(order) => {
@@ -45,7 +55,62 @@ pub fn proposed(
         }
         Judgement::Undecided => {}
     }
-    explore::explored(alloc, initial, history, limit)
+    explore::explored(alloc, initial, history, None, limit)
+}
+
+fn is_of_one_word(history: &[Access]) -> bool {
+    match history.first() {
+        Some(first) => history.iter().all(|access| access.word.0 == first.word.0),
+        None => true,
+    }
+}
+
+// Orders the accesses of several words, as far as a contradiction or an order is found.
+fn of_words(
+    alloc: Global,
+    initial: &[(WordAddr, u64)],
+    history: &[Access],
+    sources: &Sources,
+    limit: usize,
+) -> Result<Judgement, AllocError> {
+    let plan = Plan::of(alloc, history, sources)?;
+    let closure = Closure::of(alloc, history, sources, &plan)?;
+    let Some(circle) = closure.circle else {
+        let known = explore::Known {
+            plan: &plan,
+            closure: &closure,
+            sources,
+        };
+        return explore::explored(alloc, initial, history, Some(known), limit);
+    };
+    match telling::told(alloc, &plan, &closure, circle)? {
+        Some(reason) => {
+            let shorter = shorten::shortened(alloc, initial, history, reason)?;
+            Ok(Judgement::Incoherent(shorter))
+        }
+        None => Ok(Judgement::Undecided),
+    }
+}
+
+// A contradiction of accesses of one word or of several, if one is found.
+fn contradicted(
+    alloc: Global,
+    history: &[Access],
+    sources: &Sources,
+) -> Result<Option<Contradiction>, AllocError> {
+    if is_of_one_word(history) {
+        return Ok(match clustered(alloc, history, sources)? {
+            Judgement::Incoherent(reason) => Some(reason),
+            Judgement::Coherent(_order) => None,
+            Judgement::Undecided => None,
+        });
+    }
+    let plan = Plan::of(alloc, history, sources)?;
+    let closure = Closure::of(alloc, history, sources, &plan)?;
+    match closure.circle {
+        Some(circle) => telling::told(alloc, &plan, &closure, circle),
+        None => Ok(None),
+    }
 }
 
 // Orders the clusters of a history: a value that is left, and all accesses that found it.

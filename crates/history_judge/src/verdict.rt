@@ -1,4 +1,5 @@
 ghost use Rattle.std.specs.Prelude.{IfOk};
+ghost use Rattle.slice_log.specs.Log.{initially};
 ghost use Rattle.history_judge.specs.Judged.{IsJudged};
 
 use super::access::Access;
@@ -19,20 +20,20 @@ pub enum Judgement {
     Undecided,
 }
 
-/// Judges a history of a word, which begins with this value. Each core's accesses stand in its order, and those of
-/// several cores are mixed in any way. At most `limit` steps are taken to try orders, where values repeat.
+/// Judges a history of a word, or of several that are asked to have one order, as those of a line are. Words begin with
+/// these values, and others with 0. Each core's accesses stand in its order, and those of several cores are mixed in any
+/// way. At most `limit` steps are taken to try orders, where values repeat or several words are judged.
 pub fn judge(
     alloc: Global,
-    word: WordAddr,
-    initial: u64,
+    initial: &[(WordAddr, u64)],
     history: &[Access],
     limit: usize,
 ) -> Result<Judgement, AllocError>
-    ensures { IfOk result (IsJudged word initial history.now) }
+    ensures { IfOk result (IsJudged (initially initial.now) history.now) }
 {
     match proposed(alloc, initial, history, limit)? {
         Judgement::Coherent(order) => {
-            if is_order(alloc, word, initial, history, &order)? {
+            if is_order(alloc, initial, history, &order)? {
                 return Ok(Judgement::Coherent(order));
             }
         }

@@ -102,7 +102,7 @@ pub of_init : (ws : List (List ℕ)) (line : HistoryLine) → IsLineOf (codes "i
 unfolding IsLineOf
 of_init ws (history_lines.Init word value) is =
     record { word = word; value = value; is = refl; written = is.0.1; within = is.1 }
-of_init ws (history_lines.Access word access) is =
+of_init ws (history_lines.Access access) is =
     let name : codes "init" ≡ codes "core" = ap (λ ws. get_or ws 0 []) is.shape in
     absurd (two_names (codes "init") (codes "init") (codes "core") refl name refl)
 
@@ -111,19 +111,19 @@ pub of_none : (name : List ℕ) (ws : List (List ℕ)) (line : HistoryLine) → 
     → (name ≡ codes "core" → ⊥) → IsLineOf (name ∷ ws) line → ⊥
 unfolding IsLineOf
 of_none name ws (history_lines.Init word value) init core is = init is.0.0
-of_none name ws (history_lines.Access word access) init core is = core (ap (λ ws. get_or ws 0 []) is.shape)
+of_none name ws (history_lines.Access access) init core is = core (ap (λ ws. get_or ws 0 []) is.shape)
 
 of_core : (ws : List (List ℕ)) (line : HistoryLine) → IsLineOf (codes "core" ∷ ws) line
     → IsAccessLine (codes "core" ∷ ws) line
 unfolding IsLineOf
 of_core ws (history_lines.Init word value) is =
     absurd (two_names (codes "core") (codes "core") (codes "init") refl is.0.0 refl)
-of_core ws (history_lines.Access word access) is = is
+of_core ws (history_lines.Access access) is = is
 
 pub no_words : (line : HistoryLine) → IsLineOf [] line → ⊥
 unfolding IsLineOf
 no_words (history_lines.Init word value) is = is.0
-no_words (history_lines.Access word access) is = cc
+no_words (history_lines.Access access) is = cc
 
 core_alone : (line : HistoryLine) → IsLineOf (codes "core" ∷ []) line → ⊥
 core_alone line is =
@@ -232,7 +232,7 @@ timed_line : (core : List ℕ) (behind told : List (List ℕ)) (times : List ℕ
     → IsLineOf (codes "core" ∷ core ∷ behind) line
 unfolding IsAccessBy IsLineOf
 timed_line core behind told times begin end (history_lines.Init word value) shape interval is = absurd is
-timed_line core behind told times begin end (history_lines.Access word access) shape interval is = record {
+timed_line core behind told times begin end (history_lines.Access access) shape interval is = record {
   core = core;
   behind = behind;
   shape = refl;
@@ -250,7 +250,7 @@ untimed_line : (core : List ℕ) (behind : List (List ℕ)) (line : HistoryLine)
     → IsAccessBy core behind 0 18446744073709551615 line → IsLineOf (codes "core" ∷ core ∷ behind) line
 unfolding IsAccessBy IsLineOf
 untimed_line core behind (history_lines.Init word value) none is = absurd is
-untimed_line core behind (history_lines.Access word access) none is = record {
+untimed_line core behind (history_lines.Access access) none is = record {
   core = core;
   behind = behind;
   shape = refl;

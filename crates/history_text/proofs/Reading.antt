@@ -10,7 +10,8 @@ use Rattle.litmus_text.specs.Statement.{statements_from}
 use Rattle.litmus_text.specs.declared.fault.TextFault.{TextFault}
 use Rattle.litmus_text.specs.declared.fault.TextFault.TheVariants as text_faults
 use Rattle.trace_check.specs.Trace.{IsFaultAt, IsFaultOfTrace, IsNoMemoryOrLine, IsNoTrace, IsOfLine}
-use Rattle.history_text.specs.Histories.{AreTold, given_at}
+use Rattle.history_text.specs.Histories.{AreTold, given_at, given_in, row_of, value_in}
+use Rattle.history_text.proofs.Rows.{same_value}
 use Rattle.history_text.specs.HistoryLine.{IsLineOf, parts_of_history}
 use Rattle.history_text.specs.Judged.{AreFresh, AreHistoriesOf, AreHistoriesOfTrace, AreWritten, BeginsAsHistory}
 use Rattle.history_text.specs.Judged.{IsFaultIn, IsFaultOf, IsFresh, IsGivenAgain, IsNoMemoryOrAt, IsNoNext, ReadsNext, ReadsTo}
@@ -51,6 +52,13 @@ fresh_more before (l' ∷ ls) l h k = (
       (subst (λ b. IsFresh b l) (sym (append_assoc before (l' ∷ []) ls)) k),
 )
 
+-- a word was given what its lines give it
+given_as : (histories : Histories) (told : List HistoryLine) (word : WordAddr) → AreTold histories told
+    → given_at histories word.0 ≡ given_in word.0 told
+given_as histories told word are =
+    ap (λ (list : List (WordAddr × ℕ)). value_in list word.0) (are.inits (row_of histories.extent word.0))
+    ∙ same_value histories.extent word.0 told
+
 -- whether a word was given a value is whether its lines give it one
 pub given_again : (histories : Histories) (told : List HistoryLine) (word : WordAddr) (value : ℕ) (given : Option ℕ)
     → given ≡ given_at histories word.0 → is_some given ≡ true → AreTold histories told
@@ -58,13 +66,13 @@ pub given_again : (histories : Histories) (told : List HistoryLine) (word : Word
 unfolding IsGivenAgain
 given_again histories told word value None is said are = cc
 given_again histories told word value (Some v) is said are =
-    λ none. let some : Some v ≡ None = is ∙ are.given word.0 ∙ none in cc
+    λ none. let some : Some v ≡ None = is ∙ given_as histories told word are ∙ none in cc
 
 pub given_first : (histories : Histories) (told : List HistoryLine) (word : WordAddr) (value : ℕ) (given : Option ℕ)
     → given ≡ given_at histories word.0 → is_some given ≡ false → AreTold histories told
     → IsFresh told (history_lines.Init word value)
 unfolding IsFresh
-given_first histories told word value None is said are = sym (are.given word.0) ∙ sym is
+given_first histories told word value None is said are = sym (given_as histories told word are) ∙ sym is
 given_first histories told word value (Some v) is said are = cc
 
 pub reading_more : (all left : List (ℕ × List (List ℕ))) (s : ℕ × List (List ℕ)) (old now : Histories)

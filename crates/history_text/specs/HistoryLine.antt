@@ -55,17 +55,17 @@ IsDuring None begin end = (begin ≡ 0) × (end ≡ 18446744073709551615)
 IsDuring (Some times) begin end = IsInterval times begin end
 
 -- what an access names is in range
-pub record IsInRange (word : WordAddr) (access : Access) : Type 0 where
+pub record IsInRange (access : Access) : Type 0 where
   pub core_in : access.core.0 < MOST_CORES
-  pub word_in : word.0 < MOST_WORDS
+  pub word_in : access.word.0 < MOST_WORDS
   pub in_order : access.begin ≤ access.end
 
 -- the line is the access of this core that the words tell of, with these times
 unfoldable pub IsAccessBy : List ℕ → List (List ℕ) → ℕ → ℕ → HistoryLine → Type 0
 IsAccessBy core told begin end (history_lines.Init word value) = ⊥
-IsAccessBy core told begin end (history_lines.Access word access) =
-    IsNumberOf core access.core.0 × IsTold told access.op word.0 access.reply × (access.begin ≡ begin)
-    × (access.end ≡ end) × IsInRange word access
+IsAccessBy core told begin end (history_lines.Access access) =
+    IsNumberOf core access.core.0 × IsTold told access.op access.word.0 access.reply × (access.begin ≡ begin)
+    × (access.end ≡ end) × IsInRange access
 
 -- the words are those of an access
 pub record IsAccessLine (words : List (List ℕ)) (line : HistoryLine) : Type 0 where
@@ -84,7 +84,7 @@ pub record IsAccessLine (words : List (List ℕ)) (line : HistoryLine) : Type 0 
 unfoldable pub IsLineOf : List (List ℕ) → HistoryLine → Type 0
 IsLineOf words (history_lines.Init word value) =
     Writes words (key (codes "init") ∷ num word.0 ∷ num value ∷ []) × (word.0 < MOST_WORDS)
-IsLineOf words (history_lines.Access word access) = IsAccessLine words (history_lines.Access word access)
+IsLineOf words (history_lines.Access access) = IsAccessLine words (history_lines.Access access)
 
 -- words are read as a line that they write, or they write none
 pub record ReadsAsLine (words : List (List ℕ)) (result : Result HistoryLine LineFault) : Type 0 where

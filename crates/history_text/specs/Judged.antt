@@ -8,6 +8,7 @@ use Rattle.litmus_text.specs.Statement.{statements_from}
 use Rattle.litmus_text.specs.declared.fault.LineFault.{LineFault}
 use Rattle.litmus_text.specs.declared.fault.TextFault.{TextFault}
 use Rattle.litmus_text.specs.declared.fault.TextFault.TheVariants as text_faults
+use Rattle.slice_log.specs.Log.{initially}
 use Rattle.slice_log.specs.declared.entry.Entry.{Entry}
 use Rattle.trace_check.specs.Trace.{AreLines, IsFaultAt, IsFaultOfTrace, IsNoTrace, IsTrace}
 use Rattle.trace_check.specs.TraceLine.{parts_of_first}
@@ -15,7 +16,8 @@ use Rattle.trace_check.specs.declared.trace_line.Version.{Version}
 use Rattle.trace_check.specs.declared.trace_line.TraceLine.{TraceLine}
 use Rattle.history_judge.specs.Order.{IsOrderOf, HasNoOrder}
 use Rattle.history_judge.specs.declared.access.Access.{Access}
-use Rattle.history_text.specs.Histories.{AreTold, accesses_in, given_in, initially, line_of}
+use Rattle.history_text.specs.Histories.{AreTold, accesses_in, given_in, inits_in, line_of}
+use Rattle.history_text.specs.declared.extent.Extent.{Extent}
 use Rattle.history_text.specs.HistoryLine.{IsLineOf, parts_of_history}
 use Rattle.history_text.specs.declared.histories.Histories.{Histories}
 use Rattle.history_text.specs.declared.history_line.HistoryLine.{HistoryLine}
@@ -23,17 +25,17 @@ use Rattle.history_text.specs.declared.history_line.HistoryLine.TheVariants as h
 use Rattle.history_text.specs.declared.verdict.Verdict.{Verdict}
 use Rattle.history_text.specs.declared.verdict.Verdict.TheVariants as verdicts
 
--- the order of a word: those past the last have no accesses
+-- the order of a word or a line: those past the last have no accesses
 abbrev pub order_of : Option (Vec ℕ Global) → List ℕ
 order_of None = []
 order_of (Some order) = order.items
 
--- an order of each word's accesses, from the value that the word begins with; or a word whose accesses have none
-abbrev pub IsVerdictOn : (ℕ → ℕ) → (ℕ → List Access) → Verdict → Type 0
-IsVerdictOn initial accesses (verdicts.Coherent orders) =
-    (w : ℕ) → IsOrderOf (record { 0 = w }) (initial w) (accesses w) (order_of (slice_get orders.items w))
-IsVerdictOn initial accesses (verdicts.Incoherent word reason) = HasNoOrder word (initial word.0) (accesses word.0)
-IsVerdictOn initial accesses (verdicts.Undecided word) = Unit {0}
+-- an order of the accesses of each word or line, from the values that words are given; or one whose accesses have none
+abbrev pub IsVerdictOn : (ℕ → List (WordAddr × ℕ)) → (ℕ → List Access) → Verdict → Type 0
+IsVerdictOn inits accesses (verdicts.Coherent orders) =
+    (r : ℕ) → IsOrderOf (initially (inits r)) (accesses r) (order_of (slice_get orders.items r))
+IsVerdictOn inits accesses (verdicts.Incoherent r reason) = HasNoOrder (initially (inits r)) (accesses r)
+IsVerdictOn inits accesses (verdicts.Undecided r) = Unit {0}
 
 -- ---- a text that is a trace
 
@@ -77,7 +79,7 @@ AreWritten (statement ∷ statements) (line ∷ told) = IsLineOf statement.1 lin
 -- the line gives no word a value that was given one
 unfoldable pub IsFresh : List HistoryLine → HistoryLine → Type 0
 IsFresh before (history_lines.Init word value) = given_in word.0 before ≡ None
-IsFresh before (history_lines.Access word access) = Unit {0}
+IsFresh before (history_lines.Access access) = Unit {0}
 
 -- no word is given a value twice, behind these lines
 unfoldable pub AreFresh : List HistoryLine → List HistoryLine → Type 0
@@ -124,10 +126,10 @@ pub record AreHistoriesOf (text : List ℕ) (histories : Histories) : Type 0 whe
   pub are : AreTold histories told
 
 -- .. come to this
-pub record IsJudgedText (text : List ℕ) (verdict : Verdict) : Type 0 where
+pub record IsJudgedText (text : List ℕ) (extent : Extent) (verdict : Verdict) : Type 0 where
   pub told : List HistoryLine
   pub tells : Tells text told
-  pub is : IsVerdictOn (initially (λ w. given_in w told)) (λ w. accesses_in w told) verdict
+  pub is : IsVerdictOn (λ r. inits_in extent r told) (λ r. accesses_in extent r told) verdict
 
 -- .. of a text that is known to be a trace
 pub record AreHistoriesOfTrace (text : List ℕ) (histories : Histories) : Type 0 where
@@ -138,7 +140,7 @@ pub record AreHistoriesOfTrace (text : List ℕ) (histories : Histories) : Type 
 -- the line gives a value to a word that these lines gave one
 unfoldable pub IsGivenAgain : List HistoryLine → HistoryLine → Type 0
 IsGivenAgain before (history_lines.Init word value) = given_in word.0 before ≢ None
-IsGivenAgain before (history_lines.Access word access) = ⊥
+IsGivenAgain before (history_lines.Access access) = ⊥
 
 -- the words write no line that may stand behind these
 abbrev pub IsNoNext : List HistoryLine → List (List ℕ) → Type 0

@@ -1,79 +1,95 @@
-//! The histories of words, an access at a time.
-ghost use Rattle.std.specs.Prelude.{◌≡◌, ℕ, ◌==◌, ◌++◌, ◌∷◌, [], ◌<◌, List, None, OnOk, Some, if◌then◌else◌, length, unwrap_or};
-ghost use Rattle.history_text.specs.Histories.{AreTold, accesses_at, given_at, given_in};
+//! The histories of words or of lines, an access at a time.
+ghost use Rattle.std.specs.Prelude.{◌≡◌, ℕ, ◌==◌, ◌++◌, ◌∷◌, [], ◌<◌, List, OnOk, if◌then◌else◌, length};
+ghost use Rattle.std.specs.Option.{option_map};
+ghost use Rattle.history_text.specs.Histories.{AreTold, accesses_at, accesses_of, given_at, inits_at, inits_of, row_of, value_in};
 ghost use Rattle.history_text.specs.declared.history_line.HistoryLine.{HistoryLine};
 
+use super::extent::Extent;
 use super::history_line::HistoryLine;
 use address_map::WordAddr;
 use history_judge::Access;
 use std::alloc::{AllocError, Global};
 
-/// What is told of a word.
+/// What is told of a word, or of the words of a line.
 #[derive(Debug, Drop)]
 pub struct History {
-    /// The value that it begins with, if one was given: else it is 0.
-    pub given: Option<u64>,
-    /// Its accesses, each core's in its order.
+    /// The values with which words begin that were given one: others begin with 0.
+    pub given: Vec<(WordAddr, u64)>,
+    /// The accesses, each core's in its order.
     pub accesses: Vec<Access>,
     /// The number by which each of them is told: that of its line, where a text tells of them.
     pub numbers: Vec<usize>,
 }
 
-/// The histories of words.
+/// The histories of words or of lines.
 #[derive(Debug, Drop)]
 pub struct Histories {
-    /// By word, up to the last of which something is told.
+    /// By word or by line, up to the last of which something is told.
     pub(super) rows: Vec<History>,
+    pub(super) extent: Extent,
     pub(super) alloc: Global,
 }
 
 impl Histories {
-    /// Of no word anything is told.
-    pub fn new(alloc: Global) -> Self
-        ensures { AreTold result [] }
+    /// Nothing is told of any word.
+    pub fn new(alloc: Global, extent: Extent) -> Self
+        ensures told { AreTold result [] }
+        ensures extent { result.extent ≡ extent }
     {
         Histories {
             rows: Vec::new(alloc),
+            extent,
             alloc,
         }
     }
 
-    /// What is told of a word, if anything.
-    pub fn history(&self, word: WordAddr) -> Option<&History> {
-        self.rows.get(word.0 as usize)
+    /// Which words are judged together.
+    pub fn extent(&self) -> Extent
+        ensures { result ≡ self.now.extent }
+    {
+        self.extent
+    }
+
+    /// What is told of the word or the line with this number, if anything.
+    pub fn history(&self, row: u64) -> Option<&History>
+        ensures given { inits_of (option_map (λ it. it.now) result) ≡ inits_at self.now row }
+        ensures accesses { accesses_of (option_map (λ it. it.now) result) ≡ accesses_at self.now row }
+    {
+        self.rows.get(row as usize)
     }
 
     /// The value that a word was given to begin with.
     pub fn given(&self, word: WordAddr) -> Option<u64>
         ensures { result ≡ given_at self.now word.0 }
     {
-        match self.rows.get(word.0 as usize) {
-            Some(history) => history.given,
+        match self.rows.get(self.extent.row_of(word) as usize) {
+            Some(history) => value_in(&history.given, word),
             None => None,
         }
     }
 
-    /// Gives a word the value that it begins with, unless it was given one.
+    /// Gives a word the value that it begins with. If it was given one, that stays its value.
     pub fn begin(&mut self, word: WordAddr, value: u64) -> Result<(), AllocError>
-        ensures given { OnOk result ((w : ℕ) → given_at self.new w ≡ (if word.0 == w
-            then Some (unwrap_or (given_at self.old w) value) else given_at self.old w)) }
-        ensures accesses { OnOk result ((w : ℕ) → accesses_at self.new w ≡ accesses_at self.old w) }
+        ensures inits { OnOk result ((r : ℕ) → inits_at self.new r ≡ (if row_of self.old.extent word.0 == r
+            then inits_at self.old r ++ (word, value) ∷ [] else inits_at self.old r)) }
+        ensures accesses { OnOk result ((r : ℕ) → accesses_at self.new r ≡ accesses_at self.old r) }
+        ensures extent { self.new.extent ≡ self.old.extent }
     {
-        let row = word.0 as usize;
+        let row = self.extent.row_of(word) as usize;
         self.make_room(row)?;
-        if self.rows[row].given.is_none() {
-            self.rows[row].given = Some(value);
-        }
+        self.rows[row].given.push((word, value))?;
         Ok(())
     }
 
-    /// Takes the next access of a word, which is told by this number.
-    pub fn take(&mut self, word: WordAddr, access: Access, number: usize) -> Result<(), AllocError>
-        ensures given { OnOk result ((w : ℕ) → given_at self.new w ≡ given_at self.old w) }
-        ensures accesses { OnOk result ((w : ℕ) → accesses_at self.new w ≡ (if word.0 == w
-            then accesses_at self.old w ++ access ∷ [] else accesses_at self.old w)) }
+    /// Takes the next access, which is told by this number.
+    pub fn take(&mut self, access: Access, number: usize) -> Result<(), AllocError>
+        ensures inits { OnOk result ((r : ℕ) → inits_at self.new r ≡ inits_at self.old r) }
+        ensures accesses { OnOk result ((r : ℕ) → accesses_at self.new r
+            ≡ (if row_of self.old.extent access.word.0 == r then accesses_at self.old r ++ access ∷ []
+            else accesses_at self.old r)) }
+        ensures extent { self.new.extent ≡ self.old.extent }
     {
-        let row = word.0 as usize;
+        let row = self.extent.row_of(access.word) as usize;
         self.make_room(row)?;
         self.rows[row].accesses.push(access)?;
         self.rows[row].numbers.push(number)?;
@@ -83,11 +99,13 @@ impl Histories {
     /// Takes what one more line tells.
     #[tactic(auto, using(crate::proofs::Rows::told_access, crate::proofs::Rows::told_init))]
     pub(super) fn tell(&mut self, line: HistoryLine, number: usize) -> Result<(), AllocError>
-        ensures { OnOk result ((told : List HistoryLine) → AreTold self.old told → AreTold self.new (told ++ line ∷ [])) }
+        ensures told { OnOk result ((told : List HistoryLine) → AreTold self.old told
+            → AreTold self.new (told ++ line ∷ [])) }
+        ensures extent { self.new.extent ≡ self.old.extent }
     {
         match line {
             HistoryLine::Init(word, value) => self.begin(word, value)?,
-            HistoryLine::Access(word, access) => self.take(word, access, number)?,
+            HistoryLine::Access(access) => self.take(access, number)?,
         }
         Ok(())
     }
@@ -95,12 +113,13 @@ impl Histories {
     // The row is there from now on.
     fn make_room(&mut self, row: usize) -> Result<(), AllocError>
         ensures there { OnOk result (row < length self.new.rows.items) }
-        ensures given { (w : ℕ) → given_at self.new w ≡ given_at self.old w }
-        ensures accesses { (w : ℕ) → accesses_at self.new w ≡ accesses_at self.old w }
+        ensures inits { (r : ℕ) → inits_at self.new r ≡ inits_at self.old r }
+        ensures accesses { (r : ℕ) → accesses_at self.new r ≡ accesses_at self.old r }
+        ensures extent { self.new.extent ≡ self.old.extent }
     {
         'room: while self.rows.len() <= row {
             let history = History {
-                given: None,
+                given: Vec::new(self.alloc),
                 accesses: Vec::new(self.alloc),
                 numbers: Vec::new(self.alloc),
             };
@@ -108,4 +127,14 @@ impl Histories {
         }
         Ok(())
     }
+}
+
+// The first value that the word has among these.
+fn value_in(given: &[(WordAddr, u64)], word: WordAddr) -> Option<u64>
+    ensures { result ≡ value_in given.now word.0 }
+{
+    given
+        .iter()
+        .find(|pair| pair.0.0 == word.0)
+        .map(|pair| pair.1)
 }

@@ -14,8 +14,7 @@ use trace_check::{MOST_CORES, MOST_WORDS};
 pub enum HistoryLine {
     /// A word and the value that it begins with.
     Init(WordAddr, u64),
-    /// An access of a word.
-    Access(WordAddr, Access),
+    Access(Access),
 }
 
 /// What a core asked of a word, and what it was answered: 0 to a store.
@@ -86,9 +85,10 @@ fn parse_access(core: &[u8], told: &[&[u8]], interval: Interval) -> Result<Histo
         reply: told.reply,
         begin: interval.begin,
         end: interval.end,
+        word: WordAddr(told.word),
         core: CoreId(core as u8),
     };
-    Ok(HistoryLine::Access(WordAddr(told.word), access))
+    Ok(HistoryLine::Access(access))
 }
 
 impl Told {

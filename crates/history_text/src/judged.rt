@@ -1,6 +1,7 @@
 ghost use Rattle.std.specs.Prelude.{IfErr, IfOk};
 ghost use Rattle.history_text.specs.Judged.{IsFaultOf, IsJudgedText};
 
+use super::extent::Extent;
 use super::histories::Histories;
 use super::read::read_histories;
 use super::verdict::Verdict;
@@ -14,14 +15,19 @@ pub struct Judged {
     pub verdict: Verdict,
 }
 
-/// Reads a text, and judges the histories of which it tells. At most `limit` steps are taken to try orders of a word
-/// whose values repeat.
+/// Reads a text, and judges the histories of which it tells: each word's by itself, or each line's. At most `limit` steps
+/// are taken to try orders of one.
 #[tactic(auto, unfolding(crate::specs::Judged::IsFaultOf))]
-pub fn judge_text(alloc: Global, input: &[u8], limit: usize) -> Result<Judged, TextFault>
-    ensures judged { IfOk result (λ it. IsJudgedText input.now it.verdict) }
+pub fn judge_text(
+    alloc: Global,
+    input: &[u8],
+    extent: Extent,
+    limit: usize,
+) -> Result<Judged, TextFault>
+    ensures judged { IfOk result (λ it. IsJudgedText input.now extent it.verdict) }
     ensures fault { IfErr result (IsFaultOf input.now) }
 {
-    let histories = read_histories(alloc, input)?;
+    let histories = read_histories(alloc, input, extent)?;
     let verdict = histories.judge(limit)?;
     Ok(Judged { histories, verdict })
 }

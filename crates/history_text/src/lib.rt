@@ -11,12 +11,14 @@
 //! Accesses are kept by word, up to the greatest of which something is told.
 #![tactic(auto)]
 
+pub use extent::Extent;
 pub use histories::{Histories, History};
 pub use history_line::HistoryLine;
 pub use judged::{Judged, judge_text};
 pub use read::read_histories;
 pub use verdict::Verdict;
 
+mod extent;
 mod histories;
 mod history_line;
 mod interval;

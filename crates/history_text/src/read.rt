@@ -11,6 +11,7 @@ ghost use Rattle.history_text.specs.Judged.{AreHistoriesOf, AreHistoriesOfTrace,
 ghost use Rattle.history_text.specs.Judged.{IsFaultOf, IsFresh, IsGivenAgain, IsNoMemoryOrAt, IsNoNext, IsSomeTrace, ReadsNext, ReadsTo};
 ghost use Rattle.history_text.specs.declared.history_line.HistoryLine.{HistoryLine};
 
+use super::extent::Extent;
 use super::histories::Histories;
 use super::history_line::HistoryLine;
 use history_judge::Access;
@@ -21,18 +22,19 @@ use trace_check::{TraceLine, Version, check_trace};
 /// Reads the histories of which a text tells: a history, or a trace, whose entries may stand in any order that is each
 /// core's own on each word. What SEQ, TAG and SINCE say means nothing here. Want of memory and a faulty line are the
 /// only faults.
-pub fn read_histories(alloc: Global, input: &[u8]) -> Result<Histories, TextFault>
+pub fn read_histories(alloc: Global, input: &[u8], extent: Extent) -> Result<Histories, TextFault>
     ensures told { IfOk result (AreHistoriesOf input.now) }
+    ensures extent { IfOk result (λ it. it.extent ≡ extent) }
     ensures fault { IfErr result (IsFaultOf input.now) }
 {
     let mut statements = Statements::of(input);
     let Some(first) = statements.next() else {
-        return read_trace(alloc, input);
+        return read_trace(alloc, input, extent);
     };
     if is_first(first.words.as_slice()) {
-        read_lines(alloc, statements)
+        read_lines(alloc, statements, extent)
     } else {
-        read_trace(alloc, input)
+        read_trace(alloc, input, extent)
     }
 }
 
@@ -55,11 +57,16 @@ fn is_same(word: &[u8], name: &[u8]) -> bool
 
 // ---- a history
 
-fn read_lines(alloc: Global, mut statements: Statements<'_>) -> Result<Histories, TextFault>
+fn read_lines(
+    alloc: Global,
+    mut statements: Statements<'_>,
+    extent: Extent,
+) -> Result<Histories, TextFault>
     ensures read { IfOk result (ReadsTo statements.entry) }
+    ensures extent { IfOk result (λ it. it.extent ≡ extent) }
     ensures fault { IfErr result (IsNoMemoryOrAt (IsFaultIn statements.entry)) }
 {
-    let mut histories = Histories::new(alloc);
+    let mut histories = Histories::new(alloc, extent);
     let mut statement = Statement::blank();
     'lines: while statements.read(&mut statement) {
         histories.read(&statement)?;
@@ -72,6 +79,7 @@ impl Histories {
     fn read(&mut self, statement: &Statement<'_>) -> Result<(), TextFault>
         ensures read { OnOk result ((told : List HistoryLine) → AreTold self.old told
             → ReadsNext told (map (λ w. w.now) statement.now.words.items) self.new) }
+        ensures extent { self.new.extent ≡ self.old.extent }
         ensures fault { IfErr result (IsNoMemoryOrAt (λ number. (number ≡ statement.now.number)
             × ((told : List HistoryLine) → AreTold self.old told
             → IsNoNext told (map (λ w. w.now) statement.now.words.items)))) }
@@ -112,28 +120,30 @@ impl Histories {
 // ---- a trace
 
 #[tactic(auto, using(crate::proofs::Reading::of_trace), unfolding(crate::specs::Judged::IsFaultOf))]
-fn read_trace(alloc: Global, input: &[u8]) -> Result<Histories, TextFault>
+fn read_trace(alloc: Global, input: &[u8], extent: Extent) -> Result<Histories, TextFault>
     requires other { BeginsAsHistory (statements_from 0 (lines input.now)) → ⊥ }
     ensures told { IfOk result (AreHistoriesOf input.now) }
+    ensures extent { IfOk result (λ it. it.extent ≡ extent) }
     ensures fault { IfErr result (IsFaultOf input.now) }
 {
     check_trace(alloc, input)?;
-    Ok(read_checked(alloc, input)?)
+    Ok(read_checked(alloc, input, extent)?)
 }
 
 // Of a text that is known to be a trace.
-fn read_checked(alloc: Global, trace: &[u8]) -> Result<Histories, AllocError>
+fn read_checked(alloc: Global, trace: &[u8], extent: Extent) -> Result<Histories, AllocError>
     requires { IsSomeTrace trace.now }
-    ensures { IfOk result (AreHistoriesOfTrace trace.now) }
+    ensures told { IfOk result (AreHistoriesOfTrace trace.now) }
+    ensures extent { IfOk result (λ it. it.extent ≡ extent) }
 {
     let mut statements = Statements::of(trace);
     // a trace has a first line, which names its version
     let Some(first) = statements.next() else {
-        return Ok(Histories::new(alloc));
+        return Ok(Histories::new(alloc, extent));
     };
     match Version::parse(first.words.as_slice()) {
-        Ok(version) => read_entries(alloc, version, statements),
-        Err(_) => Ok(Histories::new(alloc)),
+        Ok(version) => read_entries(alloc, version, statements, extent),
+        Err(_) => Ok(Histories::new(alloc, extent)),
     }
 }
 
@@ -142,11 +152,13 @@ fn read_entries(
     alloc: Global,
     version: Version,
     mut statements: Statements<'_>,
+    extent: Extent,
 ) -> Result<Histories, AllocError>
-    ensures { IfOk result (λ it. (some : List TraceLine) → AreLines version statements.entry some
+    ensures told { IfOk result (λ it. (some : List TraceLine) → AreLines version statements.entry some
         → AreLinesToldBy version statements.entry it) }
+    ensures extent { IfOk result (λ it. it.extent ≡ extent) }
 {
-    let mut histories = Histories::new(alloc);
+    let mut histories = Histories::new(alloc, extent);
     let mut statement = Statement::blank();
     'lines: while statements.read(&mut statement) {
         // no line of a trace is refused
@@ -163,9 +175,11 @@ fn told_by(line: TraceLine) -> HistoryLine
 {
     match line {
         TraceLine::Init(word, value) => HistoryLine::Init(word, value),
-        TraceLine::Entry(entry) => HistoryLine::Access(
+        TraceLine::Entry(entry) => HistoryLine::Access(Access::untimed(
+            entry.core,
             entry.word,
-            Access::untimed(entry.core, entry.op, entry.reply),
-        ),
+            entry.op,
+            entry.reply,
+        )),
     }
 }

@@ -1,5 +1,6 @@
 use super::super::access::Access;
-use super::super::refutation::{Circle, Contradiction, Link, Step, Why};
+use super::super::refutation::{Contradiction, Link, Step, Why};
+use super::chains;
 use super::lists::{NONE, at, put};
 use super::sources::{Source, Sources};
 use std::alloc::{AllocError, Global};
@@ -150,7 +151,7 @@ impl Clusters {
             last = at(&self.next, last, NONE);
             steps.push(Step::Next(last, Why::Source))?;
         }
-        Ok(Contradiction::Circle(Circle { start, steps }))
+        chains::around(alloc, start, steps)
     }
 
     /// Orders the accesses that are in clusters, which come in these turns.
@@ -201,7 +202,7 @@ fn both_changed(
     steps.push(Step::Raise(other))?;
     steps.push(Step::Lower(source))?;
     steps.push(Step::Next(other, Why::Source))?;
-    Ok(Contradiction::Circle(Circle { start, steps }))
+    chains::around(alloc, start, steps)
 }
 
 // Both changed the initial value.
@@ -217,5 +218,5 @@ fn both_changed_first(
     };
     let mut steps = Vec::new(alloc);
     steps.push(Step::Next(one, Why::Initial))?;
-    Ok(Contradiction::Circle(Circle { start, steps }))
+    chains::around(alloc, start, steps)
 }

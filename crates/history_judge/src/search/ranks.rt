@@ -1,7 +1,8 @@
 //! The order that cores and intervals alone ask for.
 
 use super::super::access::Access;
-use super::super::refutation::{Circle, Contradiction, Link, Step, Why};
+use super::super::refutation::{Contradiction, Link, Step, Why};
+use super::chains;
 use super::lists::{NONE, at, put};
 use std::alloc::{AllocError, Global};
 
@@ -51,7 +52,7 @@ fn backwards(alloc: Global, one: usize, other: usize) -> Result<Contradiction, A
         last: other,
         why: Why::Core,
     };
-    Ok(Contradiction::Circle(Circle { start, steps }))
+    chains::around(alloc, start, steps)
 }
 
 /// Returns the first access of an order that comes before an earlier one.

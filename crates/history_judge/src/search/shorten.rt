@@ -1,13 +1,12 @@
 //! Drops accesses that a contradiction can do without.
 
 use super::super::access::Access;
-use super::super::refutation::{Circle, Contradiction, Link, Step, is_refuted};
-use super::super::verdict::Judgement;
-use super::super::writers::Writers;
-use super::clustered;
+use super::super::refutation::{Chain, Contradiction, Link, Step, is_refuted};
+use super::super::writers::Tables;
+use super::contradicted;
 use super::lists::{at, put};
 use super::sources::Sources;
-use address_map::Op;
+use address_map::{Op, WordAddr};
 use std::alloc::{AllocError, Global};
 
 /// Contradictions of more accesses stay as they are.
@@ -16,7 +15,7 @@ const MOST: usize = 200;
 /// Returns a contradiction of as few of its accesses as still contradict one another.
 pub fn shortened(
     alloc: Global,
-    initial: u64,
+    initial: &[(WordAddr, u64)],
     history: &[Access],
     reason: Contradiction,
 ) -> Result<Contradiction, AllocError> {
@@ -44,7 +43,7 @@ pub fn shortened(
 // The shorter contradiction, where it is one of the whole history too.
 fn checked(
     alloc: Global,
-    initial: u64,
+    initial: &[(WordAddr, u64)],
     history: &[Access],
     reason: Contradiction,
     shorter: Option<Contradiction>,
@@ -64,16 +63,23 @@ fn checked(
 // The accesses that a contradiction names, each once.
 fn places_of(alloc: Global, reason: &Contradiction) -> Result<Vec<usize>, AllocError> {
     let mut places = Vec::new(alloc);
-    if let Contradiction::Circle(circle) = reason {
-        places.push(circle.start.first)?;
-        places.push(circle.start.last)?;
-        for step in &circle.steps {
-            places.push(place_of(*step))?;
+    if let Contradiction::Circle(chains) = reason {
+        for chain in chains {
+            push_places(chain, &mut places)?;
         }
     }
     places.sort_unstable();
     places.dedup();
     Ok(places)
+}
+
+fn push_places(chain: &Chain, places: &mut Vec<usize>) -> Result<(), AllocError> {
+    places.push(chain.start.first)?;
+    places.push(chain.start.last)?;
+    for step in &chain.steps {
+        places.push(place_of(*step))?;
+    }
+    Ok(())
 }
 
 const fn place_of(step: Step) -> usize {
@@ -85,7 +91,7 @@ const fn place_of(step: Step) -> usize {
 // A contradiction of these accesses but one.
 fn without(
     alloc: Global,
-    initial: u64,
+    initial: &[(WordAddr, u64)],
     history: &[Access],
     places: &[usize],
     dropped: usize,
@@ -101,7 +107,7 @@ fn without(
         }
     }
     match circle_of(alloc, initial, &mut few)? {
-        Some(circle) => Ok(Some(Contradiction::Circle(among(alloc, &kept, &circle)?))),
+        Some(chains) => Ok(Some(Contradiction::Circle(among(alloc, &kept, &chains)?))),
         None => Ok(None),
     }
 }
@@ -109,11 +115,11 @@ fn without(
 // A circle of these accesses. One that found what none of them left is taken as a store.
 fn circle_of(
     alloc: Global,
-    initial: u64,
+    initial: &[(WordAddr, u64)],
     few: &mut [Access],
-) -> Result<Option<Circle>, AllocError> {
+) -> Result<Option<Vec<Chain>>, AllocError> {
     for _ in 0..MOST {
-        let sources = Sources::of(alloc, initial, few, &Writers::of(alloc, few)?)?;
+        let sources = Sources::of(alloc, initial, few, &Tables::of(alloc, few)?)?;
         match sources.unwritten {
             None => return circle_in(alloc, few, &sources),
             Some(place) => {
@@ -131,19 +137,12 @@ fn circle_in(
     alloc: Global,
     few: &[Access],
     sources: &Sources,
-) -> Result<Option<Circle>, AllocError> {
-    Ok(match clustered(alloc, few, sources)? {
-        Judgement::Incoherent(reason) => circle_among(reason),
-        Judgement::Coherent(_order) => None,
-        Judgement::Undecided => None,
+) -> Result<Option<Vec<Chain>>, AllocError> {
+    Ok(match contradicted(alloc, few, sources)? {
+        Some(Contradiction::Circle(chains)) => Some(chains),
+        Some(Contradiction::Unwritten(_place)) => None,
+        None => None,
     })
-}
-
-fn circle_among(reason: Contradiction) -> Option<Circle> {
-    match reason {
-        Contradiction::Circle(circle) => Some(circle),
-        Contradiction::Unwritten(_place) => None,
-    }
 }
 
 // Whether the access changed the word. Then it is taken as a store.
@@ -169,17 +168,25 @@ fn as_store(access: Access) -> Option<Access> {
 }
 
 // The circle of accesses of the whole history that stand at these places.
-fn among(alloc: Global, kept: &[usize], circle: &Circle) -> Result<Circle, AllocError> {
-    let Link { first, last, why } = circle.start;
+fn among(alloc: Global, kept: &[usize], chains: &[Chain]) -> Result<Vec<Chain>, AllocError> {
+    let mut whole = Vec::new(alloc);
+    for chain in chains {
+        whole.push(chain_among(alloc, kept, chain)?)?;
+    }
+    Ok(whole)
+}
+
+fn chain_among(alloc: Global, kept: &[usize], chain: &Chain) -> Result<Chain, AllocError> {
+    let Link { first, last, why } = chain.start;
     let mut steps = Vec::new(alloc);
-    for step in &circle.steps {
+    for step in &chain.steps {
         steps.push(match *step {
             Step::Next(place, why) => Step::Next(at(kept, place, place), why),
             Step::Raise(place) => Step::Raise(at(kept, place, place)),
             Step::Lower(place) => Step::Lower(at(kept, place, place)),
         })?;
     }
-    Ok(Circle {
+    Ok(Chain {
         start: Link {
             first: at(kept, first, first),
             last: at(kept, last, last),

@@ -1,5 +1,7 @@
 use super::super::access::Access;
-use super::super::writers::{Writer, Writers};
+use super::super::initial::initial_of;
+use super::super::writers::{Tables, Writer, Writers};
+use address_map::WordAddr;
 use std::alloc::{AllocError, Global};
 
 /// Where the value comes from that an access found.
@@ -26,17 +28,19 @@ pub struct Sources {
 impl Sources {
     pub fn of(
         alloc: Global,
-        initial: u64,
+        initial: &[(WordAddr, u64)],
         history: &[Access],
-        writers: &Writers,
+        tables: &Tables,
     ) -> Result<Self, AllocError> {
         let mut all = Vec::new(alloc);
         let mut are_known = true;
         let mut unwritten = None;
         for (place, access) in history.iter().enumerate() {
-            let source = match access.found() {
-                Some(value) => source_of(initial, value, writers),
-                None => Ok(Source::Unknown),
+            let source = match (access.found(), tables.of_word(access.word)) {
+                (Some(value), Some(writers)) => {
+                    source_of(initial_of(initial, access.word), value, writers)
+                }
+                _ => Ok(Source::Unknown),
             };
             are_known = are_known && (source != Ok(Source::Unknown) || access.found().is_none());
             if source.is_err() {

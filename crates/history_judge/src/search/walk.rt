@@ -1,7 +1,8 @@
 //! Steps from an access around to itself.
 
 use super::super::access::Access;
-use super::super::refutation::{Circle, Contradiction, Link, Step, Why};
+use super::super::refutation::{Contradiction, Link, Step, Why};
+use super::chains;
 use super::clusters::Clusters;
 use super::lists::{NONE, at};
 use super::ranks::Pair;
@@ -152,7 +153,7 @@ impl Walk {
         }
     }
 
-    fn ended(self) -> Contradiction {
+    fn ended(self, alloc: Global) -> Result<Contradiction, AllocError> {
         let Walk {
             start,
             first,
@@ -164,7 +165,7 @@ impl Walk {
             last,
             why: Why::Core,
         });
-        Contradiction::Circle(Circle { start, steps })
+        chains::around(alloc, start, steps)
     }
 }
 
@@ -182,7 +183,7 @@ pub fn around<'a>(
         clusters,
     };
     let (Some(begin), Some(end)) = (passages.first().copied(), passages.last().copied()) else {
-        return Ok(Walk::starting(alloc, 0).ended());
+        return Walk::starting(alloc, 0).ended(alloc);
     };
     let origin = map.writer(begin.first);
     let target = map.writer(end.last);
@@ -202,7 +203,7 @@ pub fn around<'a>(
         walk.lower(target)?;
         walk.go_on(&map, origin)?;
     }
-    Ok(walk.ended())
+    walk.ended(alloc)
 }
 
 /// Returns the steps around from two accesses in an order of the clusters, of which the later comes first.
@@ -231,7 +232,7 @@ pub fn against<'a>(
     };
     walk.found_by(later)?;
     walk.next(earlier, why)?;
-    Ok(walk.ended())
+    walk.ended(alloc)
 }
 
 // From an access of the first cluster to the writer of a later cluster's.

@@ -1,8 +1,8 @@
-use Rattle.std.proofs.Common.{◌≡◌, ◌<◌, ◌≤◌, ◌^◌, length, get_or, refl, rules, sym, arith}
+use Rattle.std.proofs.Common.{◌≡◌, ◌<◌, length, get_or, refl, rules, sym, arith}
 use Rattle.std.proofs.lemmas.Bool.{false≢true}
 use Rattle.std.proofs.lemmas.List.{get_or_read}
 use Rattle.std.proofs.lemmas.Option.{slice_get-get_or}
-use Rattle.history_judge.proofs.Checks.{bounded-none, bounded-more, bounded-all, no_bounds, not_outside, not_ordered}
+use Rattle.history_judge.proofs.Checks.{bounded-more, bounded-all, no_bounds, not_outside, not_ordered}
 use Rattle.history_judge.proofs.order.keeps_cores.Goals as goal
 
 pub loop-place-init : goal.loop-place-init
@@ -10,7 +10,7 @@ loop-place-init c =
     no_bounds c.args.history.now c.args.order.now c.in_ok-bounds.bounds.items 256 (c.in_ok-bounds.ensures.items_if_clones_equal (λ y h. h)) refl
 
 pub returns-in_default : goal.returns-in_default
-returns-in_default c = λ word each. (
+returns-in_default c = λ each. (
   λ yes. absurd (false≢true yes),
   λ ordered.
       absurd (not_outside c.args.history.now c.args.order.now c.loop-place.place-index c.loop-place-test.true
@@ -18,7 +18,7 @@ returns-in_default c = λ word each. (
 )
 
 pub returns-then-place-index : goal.returns-then-place-index
-returns-then-place-index c = λ word each.
+returns-then-place-index c = λ each.
     let order = c.args.order.now in
     let k = c.loop-place.place-index in
     let items = c.loop-place.bounds.items in
@@ -31,7 +31,7 @@ returns-then-place-index c = λ word each.
       λ ordered.
           absurd (not_ordered c.args.history.now order items k (get_or order k 0) a
           (slice_get-get_or order k 0 c.loop-place-test.true) (sym c.in-Some.ensures.value) (omega arith)
-          c.loop-place.invariant word ordered),
+          c.loop-place.invariant ordered),
     )
 
 pub loop-place-preserved : goal.loop-place-preserved
@@ -49,9 +49,9 @@ loop-place-preserved c =
     c.loop-place.invariant
 
 pub returns : goal.returns
-returns c = λ word each. (
+returns c = λ each. (
   λ yes.
       bounded-all c.args.history.now c.args.order.now c.loop-place.bounds.items c.loop-place.place-index
-      c.loop-place-test.false c.loop-place.invariant word,
+      c.loop-place-test.false c.loop-place.invariant,
   λ keeps. refl,
 )

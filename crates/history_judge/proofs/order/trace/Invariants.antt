@@ -3,4 +3,4 @@ use Rattle.history_judge.specs.Order.{entry_at}
 use Rattle.history_judge.proofs.order.trace.Given as goal
 
 abbrev pub invariant-loop-place : goal.invariant-loop-place
-invariant-loop-place l = l.entries.items ≡ map (entry_at l.word l.history) (take l.place-index l.order)
+invariant-loop-place l = l.entries.items ≡ map (entry_at l.history) (take l.place-index l.order)

@@ -5,4 +5,4 @@ returns-then-branch c =
     rw c.deref.ensures.value at (c.in_ok-is_order-in-Coherent.ensures.0 c.if-branch.true)
 
 pub returns-then-branch-2 : goal.returns-then-branch-2
-returns-then-branch-2 c = c.in_ok-is_refuted-in-Incoherent.ensures c.args.word c.if-branch-2.true
+returns-then-branch-2 c = c.in_ok-is_refuted-in-Incoherent.ensures c.if-branch-2.true

@@ -1,6 +1,6 @@
 use Rattle.std.proofs.Common.{ap, sym, ◌∙◌, ◌≡◌, ◌≤◌, Some, None, arith, length}
-use Rattle.address_map.specs.declared.address.WordAddr.{WordAddr}
-use Rattle.history_text.specs.Histories.{given_at, initially}
+use Rattle.slice_log.specs.Log.{initially}
+use Rattle.history_text.specs.Histories.{inits_at}
 use Rattle.history_text.proofs.Rows.{ordered_all, ordered_more}
 use Rattle.history_text.proofs.histories.Histories.judge.Goals as goal
 use Rattle.history_text.proofs.histories.Histories.judge.Goals.{in-Coherent+in_ok-push-in-Coherent, in-Undecided, in-Some, in-None}
@@ -13,8 +13,7 @@ loop-number-preserved c = λ none. elim c.match-branch-2.branch [
       ordered_more _ _ _ _ c.loop-number.number w.in-Coherent.order
       (ap (λ v. v.items) w.orders-is ∙ w.in_ok-push-in-Coherent.ensures.items) is before
   | in-Undecided w ↦
-      let word : WordAddr = record { 0 = c.loop-number.number } in
-      let some : Some word ≡ None = sym w.undecided-is ∙ none in cc
+      let some : Some c.loop-number.number ≡ None = sym w.undecided-is ∙ none in cc
 ]
 
 pub returns : goal.returns
@@ -24,6 +23,6 @@ returns c = elim c.match-undecided.branch [
       let rows = c.args.self.now.rows.items in
       let all : length rows ≤ c.loop-number.number = omega arith in
       rw w.result-is
-      (ordered_all (initially (given_at c.args.self.now)) rows c.loop-number.orders.items c.loop-number.number all
+      (ordered_all (λ r. initially (inits_at c.args.self.now r)) rows c.loop-number.orders.items c.loop-number.number all
       (c.loop-number.invariant w.in-None.is))
 ]

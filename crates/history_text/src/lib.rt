@@ -8,9 +8,11 @@
 //! - [`judge_text`] reads and judges (`IsJudgedText`). [`Histories::judge`] judges histories, by `history_judge`, word by word: [`Verdict::Coherent`] has an order for each
 //!   word, [`Verdict::Incoherent`] a word that has none, and why.
 //!
-//! Accesses are kept by word, up to the greatest of which something is told.
+//! Accesses are kept by word or by line, up to the greatest of which something is told. [`claims_of`] says why some have
+//! no order, in the numbers by which they are told.
 #![tactic(auto)]
 
+pub use claims::{Claim, Reason, claims_of};
 pub use extent::Extent;
 pub use histories::{Histories, History};
 pub use history_line::HistoryLine;
@@ -18,6 +20,7 @@ pub use judged::{Judged, judge_text};
 pub use read::read_histories;
 pub use verdict::Verdict;
 
+mod claims;
 mod extent;
 mod histories;
 mod history_line;

@@ -30,9 +30,10 @@
 #![tactic(auto)]
 
 pub use export::{run_export, run_queries};
+pub use history_text::Extent;
 pub use litmus_chart::{line_count, run_chart, run_svg};
 pub use litmus_command_line::{
-    CommandLine, ModelCores, ScriptForm, Table, read_files, read_line, read_settings,
+    CommandLine, ModelCores, ScheduleForm, ScriptForm, Table, read_files, read_line, read_settings,
 };
 pub use litmus_outcomes::OutcomeForm;
 pub use litmus_script::run_script;

@@ -18,6 +18,8 @@ use Rattle.litmus_command_line.specs.declared.export.ModelForm.{ModelForm}
 use Rattle.litmus_command_line.specs.declared.export.ModelForm.TheVariants.{Murphi, Smt}
 use Rattle.litmus_command_line.specs.declared.export.ModelCores.{ModelCores}
 use Rattle.litmus_command_line.specs.declared.export.ModelCores.TheVariants.{Two, Three, Four}
+use Rattle.litmus_command_line.specs.declared.form.ScheduleForm.{ScheduleForm}
+use Rattle.litmus_command_line.specs.declared.form.ScheduleForm.TheVariants as schedule_forms
 use Rattle.litmus_command_line.specs.declared.form.ScriptForm.{ScriptForm}
 use Rattle.litmus_command_line.specs.declared.form.ScriptForm.TheVariants as script_forms
 use Rattle.litmus_command_line.specs.declared.table.Table.{Table}
@@ -102,14 +104,15 @@ abbrev pub litmus_app : App
 litmus_app =
     with_rules (new_app (codes "litmus"))
     (file_rule ∷ number_rule_or (codes "seed") (codes "1") ∷ number_rule_or (codes "limit") (codes "1000000")
-    ∷ flag_rule (codes "json") ∷ flag_rule (codes "explain") ∷ [])
+    ∷ number_rule (codes "trace") ∷ lone_rule (codes "json") ∷ flag_rule (codes "explain") ∷ [])
 
 -- the subcommand that runs one on random schedules, or prints a schedule
 abbrev pub walk_app : App
 walk_app =
     with_rules (new_app (codes "walk"))
     (file_rule ∷ positive_rule (codes "rounds") ∷ number_rule_or (codes "seed") (codes "1")
-    ∷ positive_rule (codes "limit") ∷ lone_rule (codes "script") ∷ lone_rule (codes "page") ∷ lone_rule (codes "json")
+    ∷ positive_rule (codes "limit") ∷ lone_rule (codes "script") ∷ lone_rule (codes "page")
+    ∷ lone_rule (codes "coverage") ∷ lone_rule (codes "trace") ∷ lone_rule (codes "json")
     ∷ flag_rule (codes "explain") ∷ [])
 
 -- an option `--name` that takes a text
@@ -130,7 +133,8 @@ run_app =
     with_rules (new_app (codes "run"))
     (file_rule ∷ few_rule (codes "outstanding") ∷ few_or_none_rule (codes "pace")
     ∷ number_rule_or (codes "seed") (codes "1") ∷ flag_rule (codes "json") ∷ settings_rule (codes "set") ∷ lone_text_rule (codes "seeds") ∷ lone_rule (codes "csv")
-    ∷ lone_rule (codes "script") ∷ lone_rule (codes "page") ∷ lone_rule (codes "explain") ∷ [])
+    ∷ lone_rule (codes "script") ∷ lone_rule (codes "page") ∷ lone_rule (codes "coverage")
+    ∷ lone_rule (codes "trace") ∷ lone_rule (codes "explain") ∷ [])
 
 -- the argument that names a workload, which has to be there
 abbrev pub name_rule : Rule
@@ -157,7 +161,8 @@ check_app =
 abbrev pub judge_app : App
 judge_app =
     with_rules (new_app (codes "judge"))
-    (file_rule ∷ number_rule_or (codes "limit") (codes "1000000") ∷ number_rule (codes "witness")
+    (file_rule ∷ number_rule_or (codes "limit") (codes "1000000") ∷ flag_rule (codes "line")
+    ∷ number_rule (codes "witness")
     ∷ lone_rule (codes "json") ∷ flag_rule (codes "explain") ∷ [])
 
 -- the subcommand that prints one of these tables
@@ -327,6 +332,21 @@ IsFormOf rows script_forms.Json = AreGiven rows false false false false false tr
 IsFormOf rows script_forms.FromMurphi = AreGiven rows false false false false true false false
 IsFormOf rows script_forms.Coverage = AreGiven rows false false false false false false true
 
+-- these options of `walk` or `run` were given, and no other of them
+abbrev pub AreScheduleGiven : List Row → (json script page coverage trace : Bool) → Type 0
+AreScheduleGiven rows json script page coverage trace =
+    (json ≡ is_given (codes "json") rows) × (script ≡ is_given (codes "script") rows)
+    × (page ≡ is_given (codes "page") rows) × (coverage ≡ is_given (codes "coverage") rows)
+    × (trace ≡ is_given (codes "trace") rows)
+
+-- the options ask for this form of a schedule, and none of them is left out of it
+abbrev pub IsScheduleFormOf : List Row → ScheduleForm → Type 0
+IsScheduleFormOf rows (schedule_forms.Report json) = AreScheduleGiven rows json false false false false
+IsScheduleFormOf rows schedule_forms.Script = AreScheduleGiven rows false true false false false
+IsScheduleFormOf rows schedule_forms.Page = AreScheduleGiven rows false false true false false
+IsScheduleFormOf rows schedule_forms.Coverage = AreScheduleGiven rows false false false true false
+IsScheduleFormOf rows schedule_forms.Trace = AreScheduleGiven rows false false false false true
+
 -- rows are asked for, and no report
 abbrev pub is_swept : List Row → Bool
 is_swept rows =
@@ -344,22 +364,20 @@ IsLine name rows (command_lines.Chart file svg line) =
     × (svg ≡ is_given (codes "svg") rows) × IsNumberIfGiven (codes "line") rows line
 IsLine name rows (command_lines.Page file guess) =
     (name ≡ codes "page") × (first_of (codes "FILE") rows ≡ Some file.now) × (guess ≡ is_given (codes "guess") rows)
-IsLine name rows (command_lines.Litmus file seed limit json explain) =
+IsLine name rows (command_lines.Litmus file seed limit trace json explain) =
     (name ≡ codes "litmus") × (first_of (codes "FILE") rows ≡ Some file.now)
     × IsNumberOf (codes "seed") rows seed × IsNumberOf (codes "limit") rows limit
-    × (json ≡ is_given (codes "json") rows) × (explain ≡ is_given (codes "explain") rows)
-IsLine name rows (command_lines.Walk file rounds seed limit script page json explain) =
+    × IsNumberIfGiven (codes "trace") rows trace × (json ≡ is_given (codes "json") rows) × (explain ≡ is_given (codes "explain") rows)
+IsLine name rows (command_lines.Walk file rounds seed limit form explain) =
     (name ≡ codes "walk") × (first_of (codes "FILE") rows ≡ Some file.now)
     × IsNumberIfGiven (codes "rounds") rows rounds × IsNumberOf (codes "seed") rows seed
-    × IsNumberIfGiven (codes "limit") rows limit
-    × (script ≡ is_given (codes "script") rows) × (page ≡ is_given (codes "page") rows)
-    × (json ≡ is_given (codes "json") rows) × (explain ≡ is_given (codes "explain") rows)
-IsLine name rows (command_lines.Run file outstanding pace seed json script page explain) =
+    × IsNumberIfGiven (codes "limit") rows limit × IsScheduleFormOf rows form
+    × (explain ≡ is_given (codes "explain") rows)
+IsLine name rows (command_lines.Run file outstanding pace seed form explain) =
     (name ≡ codes "run") × (first_of (codes "FILE") rows ≡ Some file.now)
     × IsNumberIfGiven (codes "outstanding") rows outstanding × IsNumberIfGiven (codes "pace") rows pace
-    × IsNumberOf (codes "seed") rows seed
-    × (json ≡ is_given (codes "json") rows) × (script ≡ is_given (codes "script") rows)
-    × (page ≡ is_given (codes "page") rows) × (explain ≡ is_given (codes "explain") rows) × (is_swept rows ≡ false)
+    × IsNumberOf (codes "seed") rows seed × IsScheduleFormOf rows form
+    × (explain ≡ is_given (codes "explain") rows) × (is_swept rows ≡ false)
 IsLine name rows (command_lines.Sweep file outstanding pace seed seeds json) =
     (name ≡ codes "run") × (first_of (codes "FILE") rows ≡ Some file.now)
     × IsNumberIfGiven (codes "outstanding") rows outstanding × IsNumberIfGiven (codes "pace") rows pace
@@ -375,10 +393,10 @@ IsLine name rows (command_lines.Test file first explain) =
 IsLine name rows (command_lines.Check file json explain) =
     (name ≡ codes "check") × (first_of (codes "FILE") rows ≡ Some file.now)
     × (json ≡ is_given (codes "json") rows) × (explain ≡ is_given (codes "explain") rows)
-IsLine name rows (command_lines.Judge file limit witness json explain) =
+IsLine name rows (command_lines.Judge file limit line witness json explain) =
     (name ≡ codes "judge") × (first_of (codes "FILE") rows ≡ Some file.now)
-    × IsNumberOf (codes "limit") rows limit × IsNumberIfGiven (codes "witness") rows witness
-    × (json ≡ is_given (codes "json") rows) × (explain ≡ is_given (codes "explain") rows)
+    × IsNumberOf (codes "limit") rows limit × (line ≡ is_given (codes "line") rows)
+    × IsNumberIfGiven (codes "witness") rows witness × (json ≡ is_given (codes "json") rows) × (explain ≡ is_given (codes "explain") rows)
 IsLine name rows (command_lines.Table table exclusive json) =
     (name ≡ codes "table") × (first_of (codes "TABLE") rows ≡ Some (word_of table))
     × (exclusive ≡ is_given (codes "exclusive") rows) × (json ≡ is_given (codes "json") rows)

@@ -1,12 +1,12 @@
 ghost use Rattle.std.specs.Prelude.{◌≡◌, ◌<◌, map, IfOk, IfSome, Some, string_bytes, codes, false, is_some};
-ghost use Rattle.litmus_command_line.specs.CommandLine.{IsAsked, IsFormOf, IsLine, IsRead, is_given, word_of, IsNumberOf};
+ghost use Rattle.litmus_command_line.specs.CommandLine.{IsAsked, IsFormOf, IsLine, IsRead, IsScheduleFormOf, is_given, word_of, IsNumberOf};
 ghost use Rattle.litmus_command_line.specs.CommandLine.{IsNumberIfGiven, word_of_form, word_of_number, AreTexts, is_swept, texts_in};
 ghost use Rattle.litmus_command_line.specs.CommandLine.{texts_of};
 ghost use Rattle.std.specs.Option.{option_map};
 ghost use Rattle.clap.specs.Words.{found_of, rows_of, first_of, subcommand_rows_of};
 
 use super::export::{ModelCores, ModelForm};
-use super::form::ScriptForm;
+use super::form::{ScheduleForm, ScriptForm};
 use super::subcommands::lockup;
 use super::table::Table;
 use clap::error::ErrorKind;
@@ -41,41 +41,36 @@ pub enum CommandLine<'a> {
         guess: bool,
     },
     /// Run the litmus test in this file over threads. The seed is that of the cores' extra turns, and no run takes more
-    /// turns than `limit`. With `json`, print its outcomes as a value of JSON. Here and below, with `explain` explain an
-    /// error.
+    /// turns than `limit`. With `json`, print its outcomes as a value of JSON, and with a round to trace what each slice
+    /// performed in that. Here and below, with `explain` explain an error.
     Litmus {
         file: &'a str,
         seed: u64,
         limit: u64,
+        trace: Option<u64>,
         json: bool,
         explain: bool,
     },
     /// Run the litmus test in this file on random schedules: so many rounds, or as many as it says, of which the first
-    /// has this seed. A round is given up that isn't over after `limit` moves, if a number is given. With `json`, print
-    /// its outcomes as a value of JSON. With `script`, print the round of this seed as a script, and with `page` as that
-    /// script's page.
+    /// has this seed. A round is given up that isn't over after `limit` moves, if a number is given. Print this form of
+    /// the rounds, or of the round of this seed.
     Walk {
         file: &'a str,
         rounds: Option<u64>,
         seed: u64,
         limit: Option<u64>,
-        script: bool,
-        page: bool,
-        json: bool,
+        form: ScheduleForm,
         explain: bool,
     },
     /// Run the programs in this file in the order that the seed draws, with so many accesses of a core under way and up
     /// to so many deliveries of each slice behind an access, if a number is given, and not as many as the text says.
-    /// With `json`, report as a value of JSON. With `script`, print what was asked of the machine as a script, and with
-    /// `page` as that script's page, and no report.
+    /// Print this form of the run.
     Run {
         file: &'a str,
         outstanding: Option<u64>,
         pace: Option<u64>,
         seed: u64,
-        json: bool,
-        script: bool,
-        page: bool,
+        form: ScheduleForm,
         explain: bool,
     },
     /// Run the programs in this file once for each combination of the settings that `read_settings` reads, and for each
@@ -108,12 +103,14 @@ pub enum CommandLine<'a> {
         json: bool,
         explain: bool,
     },
-    /// Judge the trace in this file, in which the order of several cores' entries isn't known. At most `limit` steps are
-    /// taken to try orders of a word. With `witness`, print the order of the word with this number, and with `json`, the
-    /// verdict as a value of JSON. With `explain`, explain an error.
+    /// Judge the trace in this file, in which the order of several cores' entries isn't known: each word by itself, or
+    /// with `line` the words of each line. At most `limit` steps are taken to try orders of one. With `witness`, print the
+    /// order of the one with this number, and with `json`, the verdict as a value of JSON. With `explain`, explain an
+    /// error.
     Judge {
         file: &'a str,
         limit: u64,
+        line: bool,
         witness: Option<u64>,
         json: bool,
         explain: bool,
@@ -304,12 +301,14 @@ fn litmus_line<'a>(given: &ArgMatches<'a>) -> Option<CommandLine<'a>>
     let file = file_of(given)?;
     let seed = number_of(given, "seed")?;
     let limit = number_of(given, "limit")?;
+    let trace = number_if_given(given, "trace")?;
     let json = is_given(given, "json");
     let explain = is_given(given, "explain");
     Some(CommandLine::Litmus {
         file,
         seed,
         limit,
+        trace,
         json,
         explain,
     })
@@ -322,20 +321,35 @@ fn walk_line<'a>(given: &ArgMatches<'a>) -> Option<CommandLine<'a>>
     let rounds = number_if_given(given, "rounds")?;
     let seed = number_of(given, "seed")?;
     let limit = number_if_given(given, "limit")?;
-    let script = is_given(given, "script");
-    let page = is_given(given, "page");
-    let json = is_given(given, "json");
+    let form = schedule_form_of(given)?;
     let explain = is_given(given, "explain");
     Some(CommandLine::Walk {
         file,
         rounds,
         seed,
         limit,
-        script,
-        page,
-        json,
+        form,
         explain,
     })
+}
+
+/// The form that the options ask for, where they ask for one alone. The command has refused all others.
+fn schedule_form_of(given: &ArgMatches<'_>) -> Option<ScheduleForm>
+    ensures { IfSome result (IsScheduleFormOf (rows_of (found_of given.now))) }
+{
+    let json = is_given(given, "json");
+    let script = is_given(given, "script");
+    let page = is_given(given, "page");
+    let coverage = is_given(given, "coverage");
+    let trace = is_given(given, "trace");
+    match (json, script, page, coverage, trace) {
+        (_, false, false, false, false) => Some(ScheduleForm::Report { json }),
+        (false, true, false, false, false) => Some(ScheduleForm::Script),
+        (false, false, true, false, false) => Some(ScheduleForm::Page),
+        (false, false, false, true, false) => Some(ScheduleForm::Coverage),
+        (false, false, false, false, true) => Some(ScheduleForm::Trace),
+        _ => None,
+    }
 }
 
 fn run_line<'a>(given: &ArgMatches<'a>) -> Option<CommandLine<'a>>
@@ -345,22 +359,19 @@ fn run_line<'a>(given: &ArgMatches<'a>) -> Option<CommandLine<'a>>
     let outstanding = number_if_given(given, "outstanding")?;
     let pace = number_if_given(given, "pace")?;
     let seed = number_of(given, "seed")?;
-    let json = is_given(given, "json");
     if !is_swept(given) {
-        let script = is_given(given, "script");
-        let page = is_given(given, "page");
+        let form = schedule_form_of(given)?;
         let explain = is_given(given, "explain");
         return Some(CommandLine::Run {
             file,
             outstanding,
             pace,
             seed,
-            json,
-            script,
-            page,
+            form,
             explain,
         });
     }
+    let json = is_given(given, "json");
     let seeds = text_if_given(given, "seeds");
     Some(CommandLine::Sweep {
         file,
@@ -418,12 +429,14 @@ fn judge_line<'a>(given: &ArgMatches<'a>) -> Option<CommandLine<'a>>
 {
     let file = file_of(given)?;
     let limit = number_of(given, "limit")?;
+    let line = is_given(given, "line");
     let witness = number_if_given(given, "witness")?;
     let json = is_given(given, "json");
     let explain = is_given(given, "explain");
     Some(CommandLine::Judge {
         file,
         limit,
+        line,
         witness,
         json,
         explain,

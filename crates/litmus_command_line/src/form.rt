@@ -14,3 +14,18 @@ pub enum ScriptForm {
     /// The file is a model checker's trace. It isn't run, but printed as a script.
     FromMurphi,
 }
+
+/// How a schedule is printed.
+#[derive(Clone, Copy, Debug, PartialEq, Eq)]
+pub enum ScheduleForm {
+    /// What came of it: the outcomes of rounds, or the report of a run; with `json` as a value of JSON.
+    Report { json: bool },
+    /// What was asked of the machine, as a script.
+    Script,
+    /// That script's page.
+    Page,
+    /// How often each cell of the protocol's tables was met.
+    Coverage,
+    /// What each slice performed, as traces.
+    Trace,
+}

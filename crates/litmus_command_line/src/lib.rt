@@ -7,7 +7,7 @@
 
 pub use command_line::{CommandLine, read_files, read_line, read_settings};
 pub use export::ModelCores;
-pub use form::ScriptForm;
+pub use form::{ScheduleForm, ScriptForm};
 pub use table::Table;
 
 mod command_line;

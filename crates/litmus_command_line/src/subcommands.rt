@@ -317,7 +317,20 @@ fn litmus<'a>(alloc: Global) -> Result<Command<'a>, AllocError>
     );
     let command = and(
         command,
-        flag(alloc, "json", "Print the outcomes as one value of JSON"),
+        number(
+            alloc,
+            "trace",
+            "Run round N alone, and print what each slice performed, as a trace",
+        ),
+    );
+    let command = and_made(
+        command,
+        lone_flag(
+            alloc,
+            "json",
+            "Print the outcomes as one value of JSON",
+            &["trace"],
+        ),
     );
     and(command, flag(alloc, "explain", EXPLAIN_ERROR))
 }
@@ -379,9 +392,27 @@ fn walk<'a>(alloc: Global) -> Result<Command<'a>, AllocError>
         command,
         lone_flag(
             alloc,
+            "coverage",
+            "Print how often the rounds met each cell of the protocol's tables, and no outcomes",
+            &["script", "page"],
+        ),
+    );
+    let command = and_made(
+        command,
+        lone_flag(
+            alloc,
+            "trace",
+            "Print what each slice performed in the round of this seed, as a trace",
+            &["rounds", "script", "page", "coverage"],
+        ),
+    );
+    let command = and_made(
+        command,
+        lone_flag(
+            alloc,
             "json",
             "Print the outcomes as one value of JSON",
-            &["script", "page"],
+            &["script", "page", "coverage", "trace"],
         ),
     );
     and(command, flag(alloc, "explain", EXPLAIN_ERROR))
@@ -467,6 +498,24 @@ fn run<'a>(alloc: Global) -> Result<Command<'a>, AllocError>
             "page",
             "Print the same as a page for a browser",
             &["json", "set", "seeds", "csv", "script"],
+        ),
+    );
+    let command = and_made(
+        command,
+        lone_flag(
+            alloc,
+            "coverage",
+            "Print how often the run met each cell of the protocol's tables, and no report",
+            &["json", "set", "seeds", "csv", "script", "page"],
+        ),
+    );
+    let command = and_made(
+        command,
+        lone_flag(
+            alloc,
+            "trace",
+            "Print what each slice performed, as a trace, and no report",
+            &["json", "set", "seeds", "csv", "script", "page", "coverage"],
         ),
     );
     and_made(
@@ -569,8 +618,16 @@ fn judge<'a>(alloc: Global) -> Result<Command<'a>, AllocError>
         number_or(
             alloc,
             "limit",
-            "How many steps may be taken to try orders of a word whose values repeat",
+            "How many steps may be taken to try orders of a word whose values repeat, or of a line",
             "1000000",
+        ),
+    );
+    let command = and(
+        command,
+        flag(
+            alloc,
+            "line",
+            "Judge the eight words of each line together: is there one order of all their accesses?",
         ),
     );
     let command = and(
@@ -578,7 +635,7 @@ fn judge<'a>(alloc: Global) -> Result<Command<'a>, AllocError>
         number(
             alloc,
             "witness",
-            "Print the order that was found of the accesses of word N, as a trace",
+            "Print the order that was found of the accesses of word N, or of line N, as a trace",
         ),
     );
     let command = and_made(

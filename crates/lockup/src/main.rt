@@ -7,11 +7,12 @@
 #![tactic(auto)]
 
 use litmus::{
-    CommandLine, Form, JudgeForm, Limits, OutcomeForm, ScriptForm, Seeds, Size, SweepFault,
-    TextKind, hint, line_count, page_schedule, page_walk, read_line, run_beside, run_chart,
-    run_check, run_check_explained, run_check_json, run_coverage, run_explained, run_export,
-    run_json, run_judge, run_litmus_as, run_page, run_programs, run_queries, run_script, run_svg,
-    run_table, run_table_cells, run_test, run_trace, run_walk, run_waves, write_schedule,
+    CommandLine, Extent, Form, JudgeForm, Limits, OutcomeForm, ScheduleForm, ScriptForm, Seeds,
+    Size, SweepFault, TextKind, coverage_schedule, coverage_walk, hint, line_count, page_schedule,
+    page_walk, read_line, run_beside, run_chart, run_check, run_check_explained, run_check_json,
+    run_coverage, run_explained, run_export, run_json, run_judge, run_litmus_as, run_page,
+    run_programs, run_queries, run_script, run_svg, run_table, run_table_cells, run_test,
+    run_trace, run_walk, run_waves, trace_litmus, trace_schedule, trace_walk, write_schedule,
     write_walk,
 };
 use litmus_text::TextFault;
@@ -202,8 +203,7 @@ where
         } if status == REFUSED => complain_of_line(rt, people, line, input),
         CommandLine::Litmus { .. }
         | CommandLine::Walk {
-            script: false,
-            page: false,
+            form: ScheduleForm::Report { .. },
             ..
         } if status == 0 => tell_unforbidden(rt, people, input),
         _ => {}
@@ -341,6 +341,12 @@ where
         CommandLine::Litmus {
             seed,
             limit,
+            trace: Some(round),
+            ..
+        } => trace_litmus(alloc, rt, input, seed, limit, round, out),
+        CommandLine::Litmus {
+            seed,
+            limit,
             json,
             ..
         } => {
@@ -348,57 +354,46 @@ where
             run_litmus_as(alloc, rt, input, seed, limit, form, shown, out)
         }
         CommandLine::Walk {
-            seed,
-            limit,
-            script: true,
-            ..
-        } => write_walk(alloc, input, seed, limit, out),
-        CommandLine::Walk {
             file,
-            seed,
-            limit,
-            page: true,
-            ..
-        } => page_walk(alloc, head_of(alloc, file, seed)?, input, seed, limit, out),
-        CommandLine::Walk {
             rounds,
             seed,
             limit,
-            json,
+            form,
             ..
-        } => {
-            let form = outcome_form(json);
-            run_walk(alloc, input, rounds, seed, limit, form, shown, out)
-        }
-        CommandLine::Run {
-            outstanding,
-            pace,
-            seed,
-            script: true,
-            ..
-        } => write_schedule(alloc, input, Limits { outstanding, pace }, seed, out),
+        } => match form {
+            ScheduleForm::Script => write_walk(alloc, input, seed, limit, out),
+            ScheduleForm::Page => {
+                page_walk(alloc, head_of(alloc, file, seed)?, input, seed, limit, out)
+            }
+            ScheduleForm::Trace => trace_walk(alloc, input, seed, limit, out),
+            ScheduleForm::Coverage => {
+                coverage_walk(alloc, input, rounds, seed, limit, shown, out)
+            }
+            ScheduleForm::Report { json } => {
+                let form = outcome_form(json);
+                run_walk(alloc, input, rounds, seed, limit, form, shown, out)
+            }
+        },
         CommandLine::Run {
             file,
             outstanding,
             pace,
             seed,
-            page: true,
+            form,
             ..
         } => {
-            let head = head_of(alloc, file, seed)?;
             let limits = Limits { outstanding, pace };
-            page_schedule(alloc, head, input, limits, seed, out)
-        }
-        CommandLine::Run {
-            outstanding,
-            pace,
-            seed,
-            json,
-            ..
-        } => {
-            let form = report_form(json);
-            let limits = Limits { outstanding, pace };
-            run_programs(alloc, input, limits, seed, form, shown, out)
+            match form {
+                ScheduleForm::Script => write_schedule(alloc, input, limits, seed, out),
+                ScheduleForm::Page => {
+                    page_schedule(alloc, head_of(alloc, file, seed)?, input, limits, seed, out)
+                }
+                ScheduleForm::Trace => trace_schedule(alloc, input, limits, seed, out),
+                ScheduleForm::Coverage => coverage_schedule(alloc, input, limits, seed, out),
+                ScheduleForm::Report { json } => {
+                    run_programs(alloc, input, limits, seed, report_form(json), shown, out)
+                }
+            }
         }
         // These are printed by `print_rows`, `print_workload` and `add_coverage`.
         CommandLine::Sweep { .. } | CommandLine::Generate { .. } | CommandLine::Coverage => {
@@ -409,10 +404,14 @@ where
         CommandLine::Check { .. } => run_check(alloc, input, out),
         CommandLine::Judge {
             limit,
+            line,
             witness,
             json,
             ..
-        } => run_judge(alloc, input, limit, judge_form(witness, json), out),
+        } => {
+            let extent = judged_together(line);
+            run_judge(alloc, input, extent, limit, judge_form(witness, json), out)
+        }
         CommandLine::Table {
             table,
             exclusive,
@@ -467,6 +466,11 @@ const fn outcome_form(json: bool) -> OutcomeForm {
     } else {
         OutcomeForm::Table
     }
+}
+
+/// Which words are judged together.
+const fn judged_together(line: bool) -> Extent {
+    if line { Extent::Line } else { Extent::Word }
 }
 
 /// How a judgement is printed.

@@ -5,8 +5,9 @@ use Rattle.std.specs.Prelude.{if◌then◌else◌, Option, None, Some, option_ma
 use Rattle.address_map.specs.declared.request.Op.{Op}
 use Rattle.address_map.specs.declared.request.Op.TheVariants as ops
 use Rattle.history_judge.specs.declared.access.Access.{Access}
-use Rattle.history_text.specs.Histories.{accesses_at, given_at, initially}
+use Rattle.history_text.specs.Histories.{accesses_at, given_at, inits_at, row_of}
 use Rattle.history_text.specs.Judged.{IsVerdictOn}
+use Rattle.history_text.specs.declared.extent.Extent.TheVariants as extents
 use Rattle.history_text.specs.declared.histories.Histories.{Histories}
 use Rattle.history_text.specs.declared.verdict.Verdict.{Verdict}
 use Rattle.history_text.specs.declared.verdict.Verdict.TheVariants as verdicts
@@ -24,14 +25,18 @@ use Rattle.trace_check.specs.declared.judge.TheConstants.{MOST_CORES, MOST_WORDS
 pub record HasNewHistories (held : Option Held) : Type 0 where
   pub judged : JudgedHistories
   pub is : held ≡ Some (helds.Histories judged)
-  pub given : (w : ℕ) → given_at judged.histories w ≡ None
+  pub each_word : judged.histories.extent ≡ extents.Word
+  pub inits : (w : ℕ) → inits_at judged.histories w ≡ []
   pub accesses : (w : ℕ) → accesses_at judged.histories w ≡ []
 
 -- ---- a word begins as a value
 
+-- the value is noted behind those that were given
 pub record GivesWord (word value : ℕ) (was is : Histories) : Type 0 where
-  pub given : (w : ℕ) → given_at is w ≡ (if word == w then Some value else given_at was w)
-  pub accesses : (w : ℕ) → accesses_at is w ≡ accesses_at was w
+  pub inits : (r : ℕ) → inits_at is r ≡ (if row_of was.extent word == r
+      then inits_at was r ++ (record { 0 = word }, value) ∷ [] else inits_at was r)
+  pub accesses : (r : ℕ) → accesses_at is r ≡ accesses_at was r
+  pub extent : is.extent ≡ was.extent
 
 pub record GivesValue (word value : ℕ) (old new : Option Held) : Type 0 where
   pub was : JudgedHistories
@@ -68,17 +73,19 @@ access_named numbers =
       reply = reply_named op numbers.reply;
       begin = numbers.begin;
       end = numbers.end;
+      word = record { 0 = numbers.word };
       core = record { 0 = numbers.core };
     }) (op_named numbers.op numbers.operand numbers.replacement)
     else None
 
--- the word has one more access, its last
+-- what is judged with the word has one more access, the last
 pub record AddsAccess (numbers : AccessNumbers) (was is : Histories) : Type 0 where
   pub access : Access
   pub named : access_named numbers ≡ Some access
-  pub given : (w : ℕ) → given_at is w ≡ given_at was w
-  pub accesses : (w : ℕ) → accesses_at is w
-      ≡ (if numbers.word == w then accesses_at was w ++ access ∷ [] else accesses_at was w)
+  pub inits : (r : ℕ) → inits_at is r ≡ inits_at was r
+  pub accesses : (r : ℕ) → accesses_at is r
+      ≡ (if row_of was.extent access.word.0 == r then accesses_at was r ++ access ∷ [] else accesses_at was r)
+  pub extent : is.extent ≡ was.extent
 
 pub record TakesAccess (numbers : AccessNumbers) (old new : Option Held) : Type 0 where
   pub was : JudgedHistories
@@ -99,12 +106,12 @@ no_judgement = record { verdict = 0; word = 0; reasons = 0 }
 
 abbrev pub judgement_numbers : Verdict → ℕ → JudgementNumbers
 judgement_numbers (verdicts.Coherent orders) reasons = record { verdict = 0; word = 0; reasons = reasons }
-judgement_numbers (verdicts.Incoherent word reason) reasons = record { verdict = 1; word = word.0; reasons = reasons }
-judgement_numbers (verdicts.Undecided word) reasons = record { verdict = 2; word = word.0; reasons = reasons }
+judgement_numbers (verdicts.Incoherent word reason) reasons = record { verdict = 1; word = word; reasons = reasons }
+judgement_numbers (verdicts.Undecided word) reasons = record { verdict = 2; word = word; reasons = reasons }
 
 pub record IsJudgedAs (numbers : JudgementNumbers) (reasons : List ReasonNumbers) (histories : Histories) : Type 0 where
   pub verdict : Verdict
-  pub is : IsVerdictOn (initially (given_at histories)) (accesses_at histories) verdict
+  pub is : IsVerdictOn (inits_at histories) (accesses_at histories) verdict
   pub said : numbers ≡ judgement_numbers verdict (length reasons)
 
 -- the histories stay, and come to this

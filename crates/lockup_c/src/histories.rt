@@ -1,8 +1,9 @@
-ghost use Rattle.std.specs.Prelude.{[]};
+ghost use Rattle.std.specs.Prelude.{◌≡◌, []};
 ghost use Rattle.history_text.specs.Histories.{AreTold};
+ghost use Rattle.history_text.specs.declared.extent.Extent.TheVariants as extents;
 
 use super::structs::ReasonNumbers;
-use history_text::Histories;
+use history_text::{Extent, Histories};
 use std::alloc::Global;
 
 /// Histories that are judged together.
@@ -18,10 +19,11 @@ pub struct JudgedHistories {
 impl JudgedHistories {
     /// Histories of which nothing is told.
     pub(crate) fn new(alloc: Global) -> Self
-        ensures { AreTold result.histories [] }
+        ensures told { AreTold result.histories [] }
+        ensures extent { result.histories.extent ≡ extents.Word }
     {
         JudgedHistories {
-            histories: Histories::new(alloc),
+            histories: Histories::new(alloc, Extent::Word),
             accesses: 0,
             reasons: Vec::new(alloc),
         }

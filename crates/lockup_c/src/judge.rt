@@ -149,10 +149,7 @@ fn add_access(judged: &mut JudgedHistories, numbers: &AccessNumbers) -> u32
     let Some(accesses) = judged.accesses.checked_add(1) else {
         return NO_MEMORY;
     };
-    match judged
-        .histories
-        .take(WordAddr(numbers.word), access, judged.accesses)
-    {
+    match judged.histories.take(access, judged.accesses) {
         Ok(()) => {
             judged.accesses = accesses;
             DONE
@@ -171,6 +168,7 @@ fn access_named(numbers: &AccessNumbers) -> Option<Access>
             reply: reply_named(op, numbers.reply),
             begin: numbers.begin,
             end: numbers.end,
+            word: WordAddr(numbers.word),
             core: CoreId(numbers.core as u8),
         })
     } else {
@@ -247,8 +245,8 @@ fn judgement_numbers(verdict: &Verdict, reasons: usize) -> JudgementNumbers
 {
     let (number, word) = match verdict {
         Verdict::Coherent(_) => (0, 0),
-        Verdict::Incoherent(word, _) => (1, word.0),
-        Verdict::Undecided(word) => (2, word.0),
+        Verdict::Incoherent(word, _) => (1, *word),
+        Verdict::Undecided(word) => (2, *word),
     };
     JudgementNumbers {
         verdict: number,

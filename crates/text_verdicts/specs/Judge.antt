@@ -3,19 +3,20 @@ use Rattle.std.specs.Prelude.{◌≡◌, ◌⊎◌, ℕ, List}
 use Rattle.litmus_script.specs.Play.{IsOfRun}
 use Rattle.litmus_text.specs.declared.fault.TextFault.{TextFault}
 use Rattle.history_text.specs.Judged.{IsFaultOf, IsJudgedText}
+use Rattle.history_text.specs.declared.extent.Extent.{Extent}
 use Rattle.history_text.specs.declared.verdict.Verdict.{Verdict}
 use Rattle.history_text.specs.declared.verdict.Verdict.TheVariants as verdicts
 
--- the exit status: 0 where each word's accesses have an order, and 1 where some have none, or nobody knows
+-- the exit status: 0 where all that are judged together have an order, and 1 where some have none, or nobody knows
 abbrev pub status_of : Verdict → ℕ
 status_of (verdicts.Coherent orders) = 0
-status_of (verdicts.Incoherent word reason) = 1
-status_of (verdicts.Undecided word) = 1
+status_of (verdicts.Incoherent number reason) = 1
+status_of (verdicts.Undecided number) = 1
 
 -- the text tells of histories that come to this status
-pub record IsJudgedAs (text : List ℕ) (status : ℕ) : Type 0 where
+pub record IsJudgedAs (text : List ℕ) (extent : Extent) (status : ℕ) : Type 0 where
   pub verdict : Verdict
-  pub judged : IsJudgedText text verdict
+  pub judged : IsJudgedText text extent verdict
   pub is : status ≡ status_of verdict
 
 -- Why a text wasn't judged: there was no memory, its verdict couldn't be written, or a line is at fault.

@@ -1,151 +1,15 @@
-//! Why a word's accesses have no order, in the lines of the text that tells of them.
+//! The claims of a contradiction as they are printed.
 
-use history_judge::{Circle, Contradiction, Link, Step, Why};
-use history_text::History;
-use std::alloc::{AllocError, Global};
+use history_text::{Claim, Reason};
 use std::fmt;
 
-/// An access that contradicts all orders, or what comes before what.
+/// A claim as a line of text.
 #[derive(Clone, Copy)]
-pub(super) enum Claim {
-    /// The access in this line got this value, which no access left.
-    Unwritten {
-        line: usize,
-        value: u64,
-    },
-    /// The access in the first of these lines comes before that in the last, for this reason.
-    Before {
-        first: usize,
-        last: usize,
-        reason: Reason,
-    },
-}
+pub(super) struct Line(pub Claim);
 
-/// Why one access comes before another.
-#[derive(Clone, Copy)]
-pub(super) enum Reason {
-    /// This core asked for both.
-    Core(u8),
-    /// The one had ended when the other began.
-    Interval,
-    /// The last got this value, which the first alone left.
-    Source(u64),
-    /// The first got this value, which the word began with, and the last changed it.
-    Initial(u64),
-    /// The first got this value, which the access in this line left and the last overwrote.
-    Overwritten { value: u64, source: usize },
-    /// The access in this line got this value, which the last left, and the first was not between.
-    NotBetween { value: u64, reader: usize },
-}
-
-/// What a contradiction says, of a word with this history.
-pub(super) fn claims_of(
-    alloc: Global,
-    history: &History,
-    contradiction: &Contradiction,
-) -> Result<Vec<Claim>, AllocError> {
-    let mut claims = Vec::new(alloc);
-    match contradiction {
-        Contradiction::Unwritten(place) => {
-            let line = line_of(history, *place);
-            let value = reply_of(history, *place);
-            claims.push(Claim::Unwritten { line, value })?;
-        }
-        Contradiction::Circle(circle) => push_circle(history, circle, &mut claims)?,
-    }
-    Ok(claims)
-}
-
-fn push_circle(
-    history: &History,
-    circle: &Circle,
-    claims: &mut Vec<Claim>,
-) -> Result<(), AllocError> {
-    let Link { first, last, why } = circle.start;
-    claims.push(linked(history, first, last, why))?;
-    let (mut first, mut last) = (first, last);
-    for step in &circle.steps {
-        claims.push(followed(history, first, last, *step))?;
-        let (next_first, next_last) = after(first, last, *step);
-        first = next_first;
-        last = next_last;
-    }
-    Ok(())
-}
-
-/// The two accesses after a step.
-const fn after(first: usize, last: usize, step: Step) -> (usize, usize) {
-    match step {
-        Step::Next(access, _) | Step::Lower(access) => (first, access),
-        Step::Raise(access) => (access, last),
-    }
-}
-
-/// That one access comes before another, and why.
-fn linked(history: &History, first: usize, last: usize, why: Why) -> Claim {
-    let reason = match why {
-        Why::Core => Reason::Core(core_of(history, first)),
-        Why::Interval => Reason::Interval,
-        Why::Source => Reason::Source(reply_of(history, last)),
-        Why::Initial => Reason::Initial(reply_of(history, first)),
-    };
-    Claim::Before {
-        first: line_of(history, first),
-        last: line_of(history, last),
-        reason,
-    }
-}
-
-/// What follows, where the first access comes before the last.
-fn followed(history: &History, first: usize, last: usize, step: Step) -> Claim {
-    match step {
-        Step::Next(access, why) => linked(history, last, access, why),
-        Step::Raise(access) => Claim::Before {
-            first: line_of(history, access),
-            last: line_of(history, last),
-            reason: Reason::Overwritten {
-                value: reply_of(history, access),
-                source: line_of(history, first),
-            },
-        },
-        Step::Lower(access) => Claim::Before {
-            first: line_of(history, first),
-            last: line_of(history, access),
-            reason: Reason::NotBetween {
-                value: reply_of(history, last),
-                reader: line_of(history, last),
-            },
-        },
-    }
-}
-
-// A contradiction names accesses of the word alone, so there is one at each place.
-
-fn line_of(history: &History, place: usize) -> usize {
-    match history.numbers.get(place) {
-        Some(line) => *line,
-        None => 0,
-    }
-}
-
-fn core_of(history: &History, place: usize) -> u8 {
-    match history.accesses.get(place) {
-        Some(access) => access.core.0,
-        None => 0,
-    }
-}
-
-fn reply_of(history: &History, place: usize) -> u64 {
-    match history.accesses.get(place) {
-        Some(access) => access.reply,
-        None => 0,
-    }
-}
-
-/// As a line of text.
-impl fmt::Display for Claim {
+impl fmt::Display for Line {
     fn fmt<W: fmt::Write>(&self, f: &mut fmt::Formatter<W>) -> fmt::Result {
-        match self {
+        match &self.0 {
             Claim::Unwritten { line, value } => {
                 write!(f, "line {line}: got {value}, which no access left")
             }
@@ -157,6 +21,7 @@ impl fmt::Display for Claim {
                 write!(f, "line {first} before line {last}: ")?;
                 write_reason(*first, *last, *reason, f)
             }
+            Claim::Follows { first, last } => write!(f, "so line {first} before line {last}"),
         }
     }
 }
@@ -170,6 +35,7 @@ fn write_reason<W: fmt::Write>(
     match reason {
         Reason::Core(core) => write!(out, "core {core} asked for both"),
         Reason::Interval => write!(out, "the one had ended when the other began"),
+        Reason::Shown => write!(out, "as was shown"),
         Reason::Source(value) => {
             write!(
                 out,
@@ -213,6 +79,12 @@ impl fmt::Display for Json {
                 write_members(reason, f)?;
                 write!(f, "}}")
             }
+            Claim::Follows { first, last } => {
+                write!(
+                    f,
+                    "{{\"first\":{first},\"last\":{last},\"reason\":\"follows\"}}"
+                )
+            }
         }
     }
 }
@@ -221,6 +93,7 @@ fn write_members<W: fmt::Write>(reason: Reason, out: &mut W) -> fmt::Result {
     match reason {
         Reason::Core(core) => write!(out, "\"core\",\"core\":{core}"),
         Reason::Interval => write!(out, "\"interval\""),
+        Reason::Shown => write!(out, "\"shown\""),
         Reason::Source(value) => write!(out, "\"source\",\"value\":\"{value}\""),
         Reason::Initial(value) => write!(out, "\"initial\",\"value\":\"{value}\""),
         Reason::Overwritten { value, source } => {

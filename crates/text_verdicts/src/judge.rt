@@ -3,10 +3,10 @@ ghost use Rattle.std.specs.Prelude.{◌≡◌, IfErr, IfOk};
 ghost use Rattle.text_verdicts.specs.Judge.{IsJudgedAs, IsNotJudged, status_of};
 ghost use Rattle.litmus_script.specs.Play.{IsOfRun};
 
-use super::contradiction::{Claim, Json, claims_of};
-use address_map::{Op, WordAddr};
+use super::contradiction::{Json, Line};
+use address_map::Op;
 use history_judge::Access;
-use history_text::{History, Judged, Verdict, judge_text};
+use history_text::{Claim, Extent, History, Judged, Verdict, claims_of, judge_text};
 use litmus_script::TextWriter;
 use litmus_text::TextFault;
 use std::alloc::{AllocError, Global};
@@ -16,27 +16,28 @@ use std::io::Write;
 /// How a judgement is printed.
 #[derive(Clone, Copy, Debug, PartialEq, Eq)]
 pub enum JudgeForm {
-    /// As text, with the contradiction of a word that has no order.
+    /// As text, with the contradiction of a word or a line that has no order.
     Text,
-    /// .. but where all words have an order, the accesses of the word with this number in its order, as a trace.
+    /// .. but where all have an order, the accesses of the word or the line with this number in its order, as a trace.
     Witness(u64),
     /// As a value of JSON.
     Json,
 }
 
-/// Judges the histories of which a text tells, and prints the verdict in this form. At most `limit` steps are taken to
-/// try orders of a word. Returns the exit status.
+/// Judges the histories of which a text tells, each word's by itself or each line's, and prints the verdict in this form.
+/// At most `limit` steps are taken to try orders of one. Returns the exit status.
 pub fn run_judge<W: Write>(
     alloc: Global,
     input: &[u8],
+    extent: Extent,
     limit: u64,
     form: JudgeForm,
     out: &mut W,
 ) -> Result<u8, TextFault>
-    ensures judged { IfOk result (IsJudgedAs input.now) }
+    ensures judged { IfOk result (IsJudgedAs input.now extent) }
     ensures fault { IfErr result (IsNotJudged input.now) }
 {
-    let judged = judge_text(alloc, input, limit as usize)?;
+    let judged = judge_text(alloc, input, extent, limit as usize)?;
     print(alloc, &judged, form, out)?;
     Ok(status_of(&judged.verdict))
 }
@@ -70,7 +71,7 @@ fn print<W: Write>(
 /// What the contradiction says, if there is one.
 fn claims_in(alloc: Global, judged: &Judged) -> Result<Vec<Claim>, AllocError> {
     match &judged.verdict {
-        Verdict::Incoherent(word, contradiction) => match judged.histories.history(*word) {
+        Verdict::Incoherent(number, contradiction) => match judged.histories.history(*number) {
             Some(history) => claims_of(alloc, history, contradiction),
             None => Ok(Vec::new(alloc)),
         },
@@ -85,27 +86,63 @@ fn write_verdict<W: fmt::Write>(
     out: &mut W,
 ) -> fmt::Result {
     match form {
-        JudgeForm::Text => write_text(&judged.verdict, claims, out),
-        JudgeForm::Json => write_json(&judged.verdict, claims, out),
-        JudgeForm::Witness(word) => match &judged.verdict {
-            Verdict::Coherent(orders) => write_witness(judged, orders, word, out),
-            Verdict::Undecided(_) | Verdict::Incoherent(..) => {
-                write_text(&judged.verdict, claims, out)
-            }
+        JudgeForm::Text => write_text(judged, claims, out),
+        JudgeForm::Json => write_json(judged, claims, out),
+        JudgeForm::Witness(number) => match &judged.verdict {
+            Verdict::Coherent(orders) => write_witness(judged, orders, number, out),
+            Verdict::Undecided(_) | Verdict::Incoherent(..) => write_text(judged, claims, out),
         },
     }
 }
 
-fn write_text<W: fmt::Write>(verdict: &Verdict, claims: &[Claim], out: &mut W) -> fmt::Result {
-    match verdict {
+fn write_text<W: fmt::Write>(judged: &Judged, claims: &[Claim], out: &mut W) -> fmt::Result {
+    let extent = judged.histories.extent();
+    match &judged.verdict {
         Verdict::Coherent(orders) => writeln!(out, "coherent {} entries", count(orders)),
-        Verdict::Undecided(word) => writeln!(out, "undecided word {}", word.0),
-        Verdict::Incoherent(word, _) => {
-            writeln!(out, "incoherent word {}", word.0)?;
+        Verdict::Undecided(number) => writeln!(out, "undecided {}", Words(extent, *number)),
+        Verdict::Incoherent(number, _) => {
+            writeln!(out, "incoherent {}", Words(extent, *number))?;
             for it in claims {
-                writeln!(out, "{it}")?;
+                writeln!(out, "{}", Line(*it))?;
             }
             write_end(claims, out)
+        }
+    }
+}
+
+/// What is judged under a number: `word 9`, or of a line `words 8 to 15`.
+#[derive(Clone, Copy)]
+struct Words(Extent, u64);
+
+impl fmt::Display for Words {
+    fn fmt<W: fmt::Write>(&self, f: &mut fmt::Formatter<W>) -> fmt::Result {
+        match self.0 {
+            Extent::Word => write!(f, "word {}", self.1),
+            Extent::Line => {
+                let (first, last) = words_of(self.1);
+                write!(f, "words {first} to {last}")
+            }
+        }
+    }
+}
+
+const fn words_of(line: u64) -> (u64, u64) {
+    let first = line.saturating_mul(8);
+    (first, first.saturating_add(7))
+}
+
+/// The same as a member of JSON.
+#[derive(Clone, Copy)]
+struct WordsJson(Extent, u64);
+
+impl fmt::Display for WordsJson {
+    fn fmt<W: fmt::Write>(&self, f: &mut fmt::Formatter<W>) -> fmt::Result {
+        match self.0 {
+            Extent::Word => write!(f, "\"word\":{}", self.1),
+            Extent::Line => {
+                let (first, last) = words_of(self.1);
+                write!(f, "\"words\":[{first},{last}]")
+            }
         }
     }
 }
@@ -127,17 +164,20 @@ fn write_end<W: fmt::Write>(claims: &[Claim], out: &mut W) -> fmt::Result {
     }
 }
 
-fn write_json<W: fmt::Write>(verdict: &Verdict, claims: &[Claim], out: &mut W) -> fmt::Result {
-    match verdict {
+fn write_json<W: fmt::Write>(judged: &Judged, claims: &[Claim], out: &mut W) -> fmt::Result {
+    let extent = judged.histories.extent();
+    match &judged.verdict {
         Verdict::Coherent(orders) => {
             let entries = count(orders);
             writeln!(out, "{{\"verdict\":\"coherent\",\"entries\":{entries}}}")
         }
-        Verdict::Undecided(word) => {
-            writeln!(out, "{{\"verdict\":\"undecided\",\"word\":{}}}", word.0)
+        Verdict::Undecided(number) => {
+            let words = WordsJson(extent, *number);
+            writeln!(out, "{{\"verdict\":\"undecided\",{words}}}")
         }
-        Verdict::Incoherent(word, _) => {
-            write!(out, "{{\"verdict\":\"incoherent\",\"word\":{},", word.0)?;
+        Verdict::Incoherent(number, _) => {
+            let words = WordsJson(extent, *number);
+            write!(out, "{{\"verdict\":\"incoherent\",{words},")?;
             write!(out, "\"contradiction\":[")?;
             for (number, it) in claims.iter().enumerate() {
                 let comma = if number == 0 { "" } else { "," };
@@ -148,42 +188,38 @@ fn write_json<W: fmt::Write>(verdict: &Verdict, claims: &[Claim], out: &mut W) -
     }
 }
 
-/// Writes the accesses of a word in the order that was found, as a trace.
+/// Writes the accesses of a word or a line in the order that was found, as a trace.
 fn write_witness<W: fmt::Write>(
     judged: &Judged,
     orders: &[Vec<usize>],
-    word: u64,
+    number: u64,
     out: &mut W,
 ) -> fmt::Result {
     writeln!(out, "lockup-trace no-since")?;
-    let Some(history) = judged.histories.history(WordAddr(word)) else {
+    let Some(history) = judged.histories.history(number) else {
         return Ok(());
     };
-    if let Some(value) = history.given {
-        writeln!(out, "init {word} {value}")?;
+    for (word, value) in &history.given {
+        writeln!(out, "init {} {value}", word.0)?;
     }
-    match orders.get(word as usize) {
-        Some(order) => write_entries(word, history, order, out),
+    match orders.get(number as usize) {
+        Some(order) => write_entries(history, order, out),
         None => Ok(()),
     }
 }
 
-// An entry's SEQ is its place among the word's.
-fn write_entries<W: fmt::Write>(
-    word: u64,
-    history: &History,
-    order: &[usize],
-    out: &mut W,
-) -> fmt::Result {
+// An entry's SEQ is its place among those that are judged together.
+fn write_entries<W: fmt::Write>(history: &History, order: &[usize], out: &mut W) -> fmt::Result {
     for place in order {
         if let Some(access) = history.accesses.get(*place) {
-            write_entry(word, *access, *place, out)?;
+            write_entry(*access, *place, out)?;
         }
     }
     Ok(())
 }
 
-fn write_entry<W: fmt::Write>(word: u64, access: Access, seq: usize, out: &mut W) -> fmt::Result {
+fn write_entry<W: fmt::Write>(access: Access, seq: usize, out: &mut W) -> fmt::Result {
+    let word = access.word.0;
     write!(out, "entry {} {seq} 0 ", access.core.0)?;
     match access.op {
         Op::Load => write!(out, "load {word}")?,

@@ -5,5 +5,6 @@ returns c =
     let step_1 = c.and-command.ensures _ _ c.begin-command.ensures c.file.ensures in
     let step_2 = c.and-command-2.ensures _ _ step_1 c.number_or.ensures in
     let step_3 = c.and-command-3.ensures _ _ step_2 c.number_or-2.ensures in
-    let step_4 = c.and-command-4.ensures _ _ step_3 c.flag.ensures in
-    c.and.ensures _ _ step_4 c.flag-2.ensures
+    let step_4 = c.and-command-4.ensures _ _ step_3 c.number.ensures in
+    let step_5 = c.and_made-command.ensures _ _ step_4 c.lone_flag.ensures in
+    c.and.ensures _ _ step_5 c.flag.ensures

@@ -12,4 +12,6 @@ returns c =
     let step_8 = c.and_made-command-2.ensures _ _ step_7 c.lone_flag.ensures in
     let step_9 = c.and_made-command-3.ensures _ _ step_8 c.lone_flag-2.ensures in
     let step_10 = c.and_made-command-4.ensures _ _ step_9 c.lone_flag-3.ensures in
-    c.and_made.ensures _ _ step_10 c.lone_flag-4.ensures
+    let step_11 = c.and_made-command-5.ensures _ _ step_10 c.lone_flag-4.ensures in
+    let step_12 = c.and_made-command-6.ensures _ _ step_11 c.lone_flag-5.ensures in
+    c.and_made.ensures _ _ step_12 c.lone_flag-6.ensures

@@ -9,4 +9,6 @@ returns c =
     let step_5 = c.and_made-command.ensures _ _ step_4 c.lone_flag.ensures in
     let step_6 = c.and_made-command-2.ensures _ _ step_5 c.lone_flag-2.ensures in
     let step_7 = c.and_made-command-3.ensures _ _ step_6 c.lone_flag-3.ensures in
-    c.and.ensures _ _ step_7 c.flag.ensures
+    let step_8 = c.and_made-command-4.ensures _ _ step_7 c.lone_flag-4.ensures in
+    let step_9 = c.and_made-command-5.ensures _ _ step_8 c.lone_flag-5.ensures in
+    c.and.ensures _ _ step_9 c.flag.ensures

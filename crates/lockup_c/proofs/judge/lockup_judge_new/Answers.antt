@@ -5,6 +5,7 @@ pub returns-in-Ok-clause-begun : goal.returns-in-Ok-clause-begun
 returns-in-Ok-clause-begun c = λ done. record {
   judged = c.new.result;
   is = c.put-in-Ok.ensures ∙ ap Some c.in-Ok.ensures.ok;
-  given = c.new.ensures.given;
-  accesses = c.new.ensures.accesses;
+  each_word = c.new.ensures.extent;
+  inits = c.new.ensures.told.inits;
+  accesses = c.new.ensures.told.accesses;
 }

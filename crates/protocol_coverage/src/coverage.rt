@@ -74,9 +74,11 @@ impl Coverage {
         ensures added { OnOk result (self.new ≡ sums self.old other.now) }
         ensures full { OnErr result (IsTooOften self.old other.now self.new) }
     {
-        for cell in 0..other.counts.len() {
-            if let Some(times) = other.counts[cell] {
-                self.add(cell, times)?;
+        let counts = other.counts.as_slice();
+        for cell in 0..counts.len() {
+            match counts[cell] {
+                Some(times) => self.add(cell, times)?,
+                None => {}
             }
         }
         Ok(())

@@ -23,7 +23,7 @@
  * Codes. A function that returns LOCKUP_OK has made its call; what that came to stands in its outputs. With any other
  * code it has changed nothing, but for LOCKUP_NO_MEMORY of lockup_check_begin, lockup_check_entry, lockup_judge_begin and
  * lockup_judge_access, after which the trace or the histories are lost. Outputs are always written, with zeros where
- * there is nothing to say.
+ * there is nothing to say, or LOCKUP_NO_CELL for a cell.
  *
  * Ownership. A handle begins as {0}: it has nothing. lockup_make gives it a machine, and lockup_free takes it away
  * again and leaves {0}. A handle may be moved, but never copied: of two copies both would own the machine. Its field is
@@ -172,6 +172,9 @@ enum { LOCKUP_NO_CORE = 64 };
 
 /* how many acknowledgements a miss needs, where its data haven't said so yet */
 enum { LOCKUP_UNKNOWN = 64 };
+
+/* how many cells the protocol's tables have, and what stands where a call meets none */
+enum { LOCKUP_CELLS = 94, LOCKUP_NO_CELL = 94 };
 
 /* verdicts on a trace: legal, or why its first wrong entry is wrong */
 enum { LOCKUP_LEGAL = 0, LOCKUP_WRONG_REPLY = 1, LOCKUP_WRONG_ORDER = 2, LOCKUP_WRONG_SINCE = 3 };
@@ -440,6 +443,16 @@ uint32_t lockup_decide(lockup_machine *machine, uint64_t core, uint64_t tag, uin
 /* What lockup_deliver would do. */
 uint32_t lockup_plan(lockup_machine *machine, uint64_t channel, uint64_t line, uint64_t core, uint64_t from,
                      lockup_planned *planned);
+
+/* Which cell of the protocol's tables lockup_issue, lockup_evict or lockup_deliver would meet, by its number below
+ * LOCKUP_CELLS, or LOCKUP_NO_CELL; LOCKUP_NAME(cell, number) is its name. What is refused, stalls for want of room or moves
+ * nothing since no message waits meets none. An eviction for which the write-back buffer has no room meets none either,
+ * which the answer to lockup_evict says: here it has the cell that it would meet with room. */
+uint32_t lockup_cell_of_issue(lockup_machine *machine, uint64_t core, uint64_t tag, uint64_t op, uint64_t word,
+                              uint64_t operand, uint64_t replacement, uint64_t *cell);
+uint32_t lockup_cell_of_evict(lockup_machine *machine, uint64_t core, uint64_t line, uint64_t *cell);
+uint32_t lockup_cell_of_deliver(lockup_machine *machine, uint64_t channel, uint64_t line, uint64_t core, uint64_t from,
+                                uint64_t *cell);
 
 /* What lockup_deliver_next would deliver. */
 uint32_t lockup_next(lockup_machine *machine, uint64_t slice, uint64_t channel, lockup_next_delivery *next);

@@ -91,6 +91,46 @@ static const lockup_named lockup_verdict_names[] = {
 static const lockup_named lockup_judgement_names[] = {
     {LOCKUP_COHERENT, "coherent"}, {LOCKUP_INCOHERENT, "incoherent"}, {LOCKUP_UNDECIDED, "undecided"}
 };
+/* the cells of the protocol's tables: table, state, event, and what follows */
+static const lockup_named lockup_cell_names[] = {
+    {0, "cache I load IS_D"}, {1, "cache I write IM_AD"}, {2, "cache I eviction not-held"},
+    {3, "cache IS_D load joins"}, {4, "cache IS_D write joins"}, {5, "cache IS_D eviction busy"},
+    {6, "cache IS_D Fwd-GetS blocked"}, {7, "cache IS_D Fwd-GetM blocked"}, {8, "cache IS_D Inv blocked"},
+    {9, "cache IS_D Data S"}, {10, "cache IS_D Data-E E"}, {11, "cache IS_D Data-E M"}, {12, "cache IM_AD load joins"},
+    {13, "cache IM_AD write joins"}, {14, "cache IM_AD eviction busy"}, {15, "cache IM_AD Fwd-GetS blocked"},
+    {16, "cache IM_AD Fwd-GetM blocked"}, {17, "cache IM_AD Data M"}, {18, "cache IM_AD Data IM_A"},
+    {19, "cache IM_AD Inv-Ack IM_AD"}, {20, "cache IM_A load joins"}, {21, "cache IM_A write joins"},
+    {22, "cache IM_A eviction busy"}, {23, "cache IM_A Fwd-GetS blocked"}, {24, "cache IM_A Fwd-GetM blocked"},
+    {25, "cache IM_A Inv-Ack M"}, {26, "cache IM_A Inv-Ack IM_A"}, {27, "cache S load S"}, {28, "cache S write SM_AD"},
+    {29, "cache S eviction SI_A"}, {30, "cache S Inv I"}, {31, "cache SM_AD load joins"},
+    {32, "cache SM_AD write joins"}, {33, "cache SM_AD eviction busy"}, {34, "cache SM_AD Fwd-GetS blocked"},
+    {35, "cache SM_AD Fwd-GetM blocked"}, {36, "cache SM_AD Inv IM_AD"}, {37, "cache SM_AD Data M"},
+    {38, "cache SM_AD Data SM_A"}, {39, "cache SM_AD Inv-Ack SM_AD"}, {40, "cache SM_A load joins"},
+    {41, "cache SM_A write joins"}, {42, "cache SM_A eviction busy"}, {43, "cache SM_A Fwd-GetS blocked"},
+    {44, "cache SM_A Fwd-GetM blocked"}, {45, "cache SM_A Inv-Ack M"}, {46, "cache SM_A Inv-Ack SM_A"},
+    {47, "cache M load M"}, {48, "cache M write M"}, {49, "cache M eviction MI_A"}, {50, "cache M Fwd-GetS S"},
+    {51, "cache M Fwd-GetM I"}, {52, "cache E load E"}, {53, "cache E write M"}, {54, "cache E eviction MI_A"},
+    {55, "cache E Fwd-GetS S"}, {56, "cache E Fwd-GetM I"}, {57, "cache MI_A load stalls"},
+    {58, "cache MI_A write stalls"}, {59, "cache MI_A eviction busy"}, {60, "cache MI_A Fwd-GetS SI_A"},
+    {61, "cache MI_A Fwd-GetM II_A"}, {62, "cache MI_A Put-Ack I"}, {63, "cache SI_A load stalls"},
+    {64, "cache SI_A write stalls"}, {65, "cache SI_A eviction busy"}, {66, "cache SI_A Inv II_A"},
+    {67, "cache SI_A Put-Ack I"}, {68, "cache II_A load stalls"}, {69, "cache II_A write stalls"},
+    {70, "cache II_A eviction busy"}, {71, "cache II_A Put-Ack I"}, {72, "directory I GetS S"},
+    {73, "directory I GetS M"}, {74, "directory I GetM M"}, {75, "directory I PutS I"}, {76, "directory I PutM I"},
+    {77, "directory S GetS S"}, {78, "directory S GetM M"}, {79, "directory S PutS S"}, {80, "directory S PutS I"},
+    {81, "directory S PutM S"}, {82, "directory S PutM I"}, {83, "directory M GetS S_D"}, {84, "directory M GetM M"},
+    {85, "directory M PutS M"}, {86, "directory M PutM M"}, {87, "directory M PutM I"},
+    {88, "directory S_D GetS blocked"}, {89, "directory S_D GetM blocked"}, {90, "directory S_D PutS S_D"},
+    {91, "directory S_D PutM S_D"}, {92, "directory S_D Data-home S"}, {93, "directory S_D Data-home I"}
+};
+
+/* Whether a machine can meet a cell, with the exclusive state or without it. */
+LOCKUP_INLINE int lockup_cell_is_met(uint64_t cell, uint64_t exclusive) {
+    static const uint64_t with[] = {6, 7, 10, 11, 52, 53, 54, 55, 56, 73}, without = 72;
+    size_t at;
+    for (at = 0; at < sizeof with / sizeof *with; at++) if (with[at] == cell) return exclusive != 0;
+    return cell == without ? !exclusive : cell < LOCKUP_CELLS;
+}
 
 /* The first field for which lockup_make refuses a configuration, or NULL where it makes a machine. Of LOCKUP_OUT_OF_RANGE
  * it says which: "policy", "misses" and "exclusive" come first. (0 - 1 is past each bound.) */

@@ -88,6 +88,27 @@ LOCKUP_INLINE uint32_t lockup_checked_plan(lockup_machine *machine, uint64_t cha
 }
 #define lockup_plan lockup_checked_plan
 
+LOCKUP_INLINE uint32_t lockup_checked_cell_of_issue(lockup_machine *machine, uint64_t core, uint64_t tag, uint64_t op,
+        uint64_t word, uint64_t operand, uint64_t replacement, uint64_t *cell) {
+    if (!machine || !cell) return LOCKUP_NULL;
+    return lockup_cell_of_issue(machine, core, tag, op, word, operand, replacement, cell);
+}
+#define lockup_cell_of_issue lockup_checked_cell_of_issue
+
+LOCKUP_INLINE uint32_t lockup_checked_cell_of_evict(lockup_machine *machine, uint64_t core, uint64_t line,
+        uint64_t *cell) {
+    if (!machine || !cell) return LOCKUP_NULL;
+    return lockup_cell_of_evict(machine, core, line, cell);
+}
+#define lockup_cell_of_evict lockup_checked_cell_of_evict
+
+LOCKUP_INLINE uint32_t lockup_checked_cell_of_deliver(lockup_machine *machine, uint64_t channel, uint64_t line,
+        uint64_t core, uint64_t from, uint64_t *cell) {
+    if (!machine || !cell) return LOCKUP_NULL;
+    return lockup_cell_of_deliver(machine, channel, line, core, from, cell);
+}
+#define lockup_cell_of_deliver lockup_checked_cell_of_deliver
+
 LOCKUP_INLINE uint32_t lockup_checked_next(lockup_machine *machine, uint64_t slice, uint64_t channel,
         lockup_next_delivery *next) {
     if (!machine || !next) return LOCKUP_NULL;

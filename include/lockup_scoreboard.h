@@ -12,6 +12,7 @@
  *         lockup_difference_text(&board, said, sizeof said);   // call 17, issue 0 3 load 8: reply is 5, and the design's is 4
  *         lockup_write_script(&board, file, 0);                // for lockup chart, page and script --explain
  *     }
+ *     lockup_write_coverage(counts, config.exclusive, file);   // for lockup coverage, where board.coverage = counts
  *     lockup_scoreboard_end(&board);
  *
  * Codes are those of lockup.h, and LOCKUP_DIFFERS at the first difference, which is kept: from then on each call returns
@@ -100,6 +101,8 @@ typedef struct {
     lockup_call last;
     lockup_call *made; /* the calls that are kept, 96 bytes each */
     size_t made_count, made_room;
+    /* LOCKUP_CELLS counts of yours, which you may set, or NULL: each call adds 1 to that of the cell which it meets */
+    uint64_t *coverage;
     lockup_difference difference;
 } lockup_scoreboard;
 
@@ -413,6 +416,19 @@ LOCKUP_INLINE void lockup_note(lockup_scoreboard *board, const lockup_call *call
     board->made[board->made_count++] = *call;
 }
 
+/* Counts the cell that a call has met, where cells are counted. */
+LOCKUP_INLINE void lockup_cover(lockup_scoreboard *board, uint64_t cell) {
+    if (board->coverage && cell < LOCKUP_CELLS) board->coverage[cell]++;
+}
+
+/* The cell that the next delivery would meet, where one can be made. */
+LOCKUP_INLINE void lockup_cell_of_next(lockup_scoreboard *board, uint64_t slice, uint64_t channel, uint64_t *cell) {
+    lockup_next_delivery next;
+    memset(&next, 0, sizeof next);
+    if (lockup_next(&board->machine, slice, channel, &next) || next.answer != LOCKUP_MOVED) return;
+    lockup_cell_of_deliver(&board->machine, next.channel, next.line, next.core, next.from, cell);
+}
+
 LOCKUP_INLINE int lockup_issued_differ(lockup_scoreboard *board, uint64_t op, const lockup_issued *wanted,
                                        const lockup_issued *came) {
     if (lockup_differ_named(board, "answer", LOCKUP_NAMES(answer), wanted->answer, came->answer)) return 1;
@@ -429,9 +445,13 @@ LOCKUP_INLINE int lockup_issued_differ(lockup_scoreboard *board, uint64_t op, co
 LOCKUP_INLINE uint32_t lockup_expect_issue(lockup_scoreboard *board, uint64_t core, uint64_t tag, uint64_t op,
         uint64_t word, uint64_t operand, uint64_t replacement, const lockup_issued *answered) {
     lockup_call call = lockup_call_of(LOCKUP_CALL_ISSUE, core, tag, op, word, operand, replacement);
+    uint64_t cell = LOCKUP_NO_CELL;
     uint32_t code = lockup_takes_call(board, answered);
+    if (!code && board->coverage)
+        lockup_cell_of_issue(&board->machine, core, tag, op, word, operand, replacement, &cell);
     if (!code) code = lockup_issue(&board->machine, core, tag, op, word, operand, replacement, &call.told.issued);
     if (code) return code;
+    lockup_cover(board, cell);
     lockup_note(board, &call);
     lockup_look_at(board, "issue", core, word / 8, LOCKUP_NO_NUMBER);
     return lockup_differ_code(lockup_issued_differ(board, op, &call.told.issued, answered));
@@ -440,9 +460,12 @@ LOCKUP_INLINE uint32_t lockup_expect_issue(lockup_scoreboard *board, uint64_t co
 /* .. an eviction */
 LOCKUP_INLINE uint32_t lockup_expect_evict(lockup_scoreboard *board, uint64_t core, uint64_t line, uint64_t answered) {
     lockup_call call = lockup_call_of(LOCKUP_CALL_EVICT, core, line, 0, 0, 0, 0);
+    uint64_t cell = LOCKUP_NO_CELL;
     uint32_t code = lockup_takes_call(board, &answered);
+    if (!code && board->coverage) lockup_cell_of_evict(&board->machine, core, line, &cell);
     if (!code) code = lockup_evict(&board->machine, core, line, &call.told.answer);
     if (code) return code;
+    if (call.told.answer != LOCKUP_BUFFER_FULL) lockup_cover(board, cell);
     lockup_note(board, &call);
     lockup_look_at(board, "evict", core, line, LOCKUP_NO_NUMBER);
     return lockup_differ_code(lockup_differ_named(board, "answer", LOCKUP_NAMES(evicted), call.told.answer, answered));
@@ -452,9 +475,12 @@ LOCKUP_INLINE uint32_t lockup_expect_evict(lockup_scoreboard *board, uint64_t co
 LOCKUP_INLINE uint32_t lockup_expect_deliver(lockup_scoreboard *board, uint64_t channel, uint64_t line, uint64_t core,
                                              uint64_t from, uint64_t answered) {
     lockup_call call = lockup_call_of(LOCKUP_CALL_DELIVER, channel, line, core, from, 0, 0);
+    uint64_t cell = LOCKUP_NO_CELL;
     uint32_t code = lockup_takes_call(board, &answered);
+    if (!code && board->coverage) lockup_cell_of_deliver(&board->machine, channel, line, core, from, &cell);
     if (!code) code = lockup_deliver(&board->machine, channel, line, core, from, &call.told.answer);
     if (code) return code;
+    lockup_cover(board, cell);
     lockup_note(board, &call);
     lockup_look_at(board, "deliver", channel == LOCKUP_HOME ? LOCKUP_NO_NUMBER : core, line, LOCKUP_NO_NUMBER);
     return lockup_differ_code(lockup_differ_named(board, "answer", LOCKUP_NAMES(delivered), call.told.answer, answered));
@@ -487,9 +513,12 @@ LOCKUP_INLINE void lockup_keep_delivery(lockup_scoreboard *board, const lockup_n
 LOCKUP_INLINE uint32_t lockup_expect_next(lockup_scoreboard *board, uint64_t slice, uint64_t channel,
                                           const lockup_next_delivery *answered) {
     lockup_call call = lockup_call_of(LOCKUP_CALL_NEXT, slice, channel, 0, 0, 0, 0);
+    uint64_t cell = LOCKUP_NO_CELL;
     uint32_t code = lockup_takes_call(board, answered);
+    if (!code && board->coverage) lockup_cell_of_next(board, slice, channel, &cell);
     if (!code) code = lockup_deliver_next(&board->machine, slice, channel, &call.told.next);
     if (code) return code;
+    lockup_cover(board, cell);
     lockup_note(board, &call);
     if (call.told.next.answer != LOCKUP_MOVED) lockup_keep_delivery(board, answered);
     lockup_look_at(board, "next", LOCKUP_NO_NUMBER, LOCKUP_NO_NUMBER, slice);
@@ -976,6 +1005,17 @@ LOCKUP_INLINE uint32_t lockup_write_script(const lockup_scoreboard *board, FILE 
     for (at = 0; at < board->made_count; at++) lockup_write_call(&board->made[at], file, has_answers);
     lockup_difference_text(board, said, sizeof said);
     if (board->difference.found) fprintf(file, "# %s\n", said);
+    return fflush(file) || ferror(file) ? LOCKUP_NOT_WRITTEN : LOCKUP_OK;
+}
+
+/* Writes the LOCKUP_CELLS counts of the cells, as `lockup coverage` reads them: those that a machine can meet with the
+ * exclusive state, or without it. LOCKUP_NOT_WRITTEN. */
+LOCKUP_INLINE uint32_t lockup_write_coverage(const uint64_t *counts, uint64_t exclusive, FILE *file) {
+    uint64_t cell;
+    if (!counts || !file) return LOCKUP_NULL;
+    fputs("lockup-coverage 1\n", file);
+    for (cell = 0; cell < LOCKUP_CELLS; cell++)
+        if (lockup_cell_is_met(cell, exclusive)) lockup_write_row(file, LOCKUP_NAME(cell, cell), counts + cell, 1);
     return fflush(file) || ferror(file) ? LOCKUP_NOT_WRITTEN : LOCKUP_OK;
 }
 

@@ -5,6 +5,7 @@ of a fault short. `Judge` judges the trace of any cache, entry by entry, and `Hi
 answered, in no known order. Each call does what the same line of a script does (docs/TEXTS.md); docs/LIBRARY.md says what is
 proved.
 """
+from .cells import CELLS, coverage_text
 from .errors import Differs, InUse, LockupError, NoMachine, NoMemory, NotAllowed, OutOfRange
 from .histories import Histories
 from .judge import Judge
@@ -23,11 +24,11 @@ from .values import (
 __version__ = "0.3.0"
 
 __all__ = [
-    "Answer", "Channel", "Coherence", "Config", "Copy", "CopyState", "CoreCounts", "Decision", "Delivered",
+    "Answer", "CELLS", "Channel", "Coherence", "Config", "Copy", "CopyState", "CoreCounts", "Decision", "Delivered",
     "Delivery", "Differs", "Directory", "DirectoryState", "Entry", "Evicted", "Histories", "InUse", "Issued", "Judge",
     "Judged", "Judgement", "Kind", "LockupError", "Log", "Machine", "Message", "MessageCounts", "MessageKind",
     "Misses", "NoMachine", "NoMemory", "NotAllowed", "Op", "OutOfRange", "Planned", "Policy", "Reason", "Receipt",
-    "Refused", "Register", "Scoreboard", "Stall", "Target", "Verdict", "Why", "library_version",
+    "Refused", "Register", "Scoreboard", "Stall", "Target", "Verdict", "Why", "coverage_text", "library_version",
 ]
 
 

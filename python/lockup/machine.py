@@ -6,6 +6,7 @@ from html import escape
 from operator import index
 from typing import Iterator, List, Mapping, NoReturn, Optional, Sequence, Tuple, Type, TypeVar, Union, overload
 
+from .cells import CELLS
 from .errors import OutOfRange, error_of
 from .handle import Owner
 from .library import NOT_SMALL, WORDS, library, number, words as words_of
@@ -271,6 +272,29 @@ class Machine(Owner):
     def plan(self, channel: int, line: int, core: int = 0, sender: int = 0) -> Planned:
         """Returns what `deliver` would do."""
         return Planned.of(self._ask("plan", 4, channel, line, core, sender), channel)
+
+    def cell_of_issue(self, core: int, tag: int, op: int, word: int, operand: int = 0,
+                      replacement: int = 0) -> Optional[int]:
+        """Returns the number of the cell of the protocol's tables that `issue` would meet, whose name is in `CELLS`, or
+        None where it meets none.
+
+        >>> with Machine() as machine:
+        ...     CELLS[machine.cell_of_issue(0, 0, Op.LOAD, 8)]
+        'cache I load IS_D'
+        """
+        return self._cell("cell_of_issue", core, tag, op, word, operand, replacement)
+
+    def cell_of_evict(self, core: int, line: int) -> Optional[int]:
+        """.. that `evict` would, where the write-back buffer has room: an eviction that is answered BUFFER_FULL meets none."""
+        return self._cell("cell_of_evict", core, line)
+
+    def cell_of_deliver(self, channel: int, line: int, core: int = 0, sender: int = 0) -> Optional[int]:
+        """.. that `deliver` would."""
+        return self._cell("cell_of_deliver", channel, line, core, sender)
+
+    def _cell(self, name: str, *words: int) -> Optional[int]:
+        cell = self._count(name, *words)
+        return cell if cell < len(CELLS) else None
 
     def next(self, slice: int = 0, channel: int = Channel.ANY) -> Delivery:
         """Returns what `deliver_next` would deliver."""

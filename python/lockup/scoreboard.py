@@ -1,7 +1,8 @@
 """Holds a design against a machine, call by call, and writes the calls so far as a script."""
 from types import TracebackType
-from typing import Iterable, List, Mapping, Optional, Sequence, Tuple, Type
+from typing import Callable, Iterable, List, Mapping, Optional, Sequence, Tuple, Type
 
+from .cells import CELLS, coverage_text
 from .errors import Differs, OutOfRange
 from .looks import differences
 from .machine import Config, Machine
@@ -34,10 +35,11 @@ class Scoreboard:
     """
 
     def __init__(self, config: Optional[Config] = None, init: Optional[Mapping[int, int]] = None,
-                 counters: Sequence[int] = (), *, record: bool = True, **fields: int) -> None:
+                 counters: Sequence[int] = (), *, record: bool = True, coverage: bool = False, **fields: int) -> None:
         """Makes the machine as `Machine` does. Where calls aren't recorded there is no script, and a long run takes no
-        memory for it."""
+        memory for it. With `coverage` each call adds 1 to the count of the cell of the protocol's tables that it meets."""
         self._machine = Machine(config, init, counters, **fields)
+        self._counts: Optional[List[int]] = [0] * len(CELLS) if coverage else None
         self._differs: Optional[Differs] = None
         # what stands in the script, and behind a command its answer
         self._rows: Optional[List[Tuple[str, str]]] = None
@@ -52,8 +54,19 @@ class Scoreboard:
         """The machine, to look at. Calls of it that aren't made here aren't in the script."""
         return self._machine
 
+    @property
+    def coverage(self) -> List[int]:
+        """How often the calls met each cell, by its number; `CELLS` has their names."""
+        if self._counts is None:
+            raise ValueError("cells aren't counted")
+        return list(self._counts)
+
+    def coverage_text(self) -> str:
+        """Returns the counts as `lockup coverage` reads them."""
+        return coverage_text(self.coverage, bool(self._machine.config.exclusive))
+
     def close(self) -> None:
-        """Frees the machine. The script stays."""
+        """Frees the machine. The script and the counts stay."""
         self._machine.close()
 
     def __enter__(self) -> "Scoreboard":
@@ -71,7 +84,10 @@ class Scoreboard:
     def expect_issue(self, core: int, tag: int, op: int, word: int, operand: int = 0, replacement: int = 0, *,
                      answered: Issue) -> Issued:
         """A core asked for a word: `answered` is what became of that, its number (or its reason), and its reply."""
-        wanted = self._open().issue(core, tag, op, word, operand, replacement)
+        machine = self._open()
+        cell = self._cell(machine.cell_of_issue, core, tag, op, word, operand, replacement)
+        wanted = machine.issue(core, tag, op, word, operand, replacement)
+        self._cover(cell)
         self._note(issue_command(core, tag, op, word, operand, replacement), issue_text(wanted))
         answer, number, reply = answered
         fields: List[Field] = [("answer", wanted.answer, member(Answer, answer))]
@@ -87,14 +103,20 @@ class Scoreboard:
 
     def expect_evict(self, core: int, line: int, *, answered: int) -> Evicted:
         """A core was asked to evict its copy of a line."""
-        wanted = self._open().evict(core, line)
+        machine = self._open()
+        cell = self._cell(machine.cell_of_evict, core, line)
+        wanted = machine.evict(core, line)
+        self._cover(None if wanted == Evicted.BUFFER_FULL else cell)
         self._note(f"evict {known(core)} {known(line)}", evict_text(wanted))
         self._agree([("answer", wanted, member(Evicted, answered))], evict_text(answered))
         return wanted
 
     def expect_deliver(self, channel: int, line: int, core: int = 0, sender: int = 0, *, answered: int) -> Delivered:
         """The message in front of a channel was to be delivered."""
-        wanted = self._open().deliver(channel, line, core, sender)
+        machine = self._open()
+        cell = self._cell(machine.cell_of_deliver, channel, line, core, sender)
+        wanted = machine.deliver(channel, line, core, sender)
+        self._cover(cell)
         self._note(deliver_command(channel, line, core, sender), deliver_text(wanted))
         self._agree([("answer", wanted, member(Delivered, answered))], deliver_text(answered))
         return wanted
@@ -102,13 +124,25 @@ class Scoreboard:
     def expect_next(self, slice: int = 0, channel: int = Channel.ANY, *, answered: Next) -> Delivery:
         """The next message of a slice that can be moved was to be delivered: `answered` is the answer, and where a message
         was moved its channel, line, core and sender."""
-        wanted = self._open().deliver_next(slice, channel)
+        machine = self._open()
+        cell = self._cell_of_next(slice, channel)
+        wanted = machine.deliver_next(slice, channel)
+        self._cover(cell)
         self._note_next(slice, wanted, answered)
         fields: List[Field] = [("answer", wanted.answer, member(Delivered, answered[0]))]
         if wanted.channel is not None:
             fields += zip(Delivery._fields[1:], named_of(wanted), named_of(answered))
         self._agree(fields, next_text(answered))
         return wanted
+
+    def _cell_of_next(self, slice: int, channel: int) -> Optional[int]:
+        """Returns the cell that the next delivery would meet, where one can be made and cells are counted."""
+        if self._counts is None:
+            return None
+        next = self._machine.next(slice, channel)
+        if next.channel is None:
+            return None
+        return self._machine.cell_of_deliver(next.channel, next.line, next.core, next.sender)
 
     def _note_next(self, slice: int, wanted: Delivery, answered: Next) -> None:
         """Takes down a next delivery, which a script has by its channel alone: what the machine moved, or where it has moved
@@ -165,6 +199,15 @@ class Scoreboard:
         if self._differs is not None:
             raise self._differs
         return self._machine
+
+    def _cell(self, of: Callable[..., Optional[int]], *numbers: int) -> Optional[int]:
+        """Returns the cell that a call would meet, where cells are counted."""
+        return None if self._counts is None else of(*numbers)
+
+    def _cover(self, cell: Optional[int]) -> None:
+        """Counts the cell that a call has met."""
+        if self._counts is not None and cell is not None:
+            self._counts[cell] += 1
 
     def _write(self, row: str, answer: str = "") -> None:
         if self._rows is not None:

@@ -9,7 +9,7 @@
  * adds 1 to each number of an ANSWER (issue or hand) that has a reply. moves answers a next delivery of data where there is
  * none. sharers shows core 63, of 64, as the only sharer. junk fills what has no meaning, unseen what a design may
  * not have; rarely compares states at every 60th call alone. It prints the difference, the sentence, how many calls lacked
- * memory, and the script. A C89 program, and one of C++98. */
+ * memory, and the script; where COVERAGE names a file, the counts of the cells go there. A C89 program, and one of C++98. */
 #include "lockup_scoreboard.h"
 
 #define CHECK(call) check((call), #call)
@@ -23,6 +23,7 @@ static uint64_t now;
 static const char *plant = "none", *planted = "";
 static long place, key;
 static int lacked;
+static uint64_t counts[LOCKUP_CELLS];
 
 static uint32_t check(uint32_t code, const char *call) {
     if (code == LOCKUP_OK || code == LOCKUP_DIFFERS || code == LOCKUP_NO_MEMORY) return code;
@@ -321,7 +322,16 @@ static void say(void) {
     if (code) printf("%s\n", LOCKUP_NAME(code, code));
 }
 
+/* Writes the counts of the cells into a file. */
+static void write_counts(const char *name) {
+    FILE *const file = fopen(name, "w");
+    if (!file) exit(2);
+    CHECK(lockup_write_coverage(counts, config.exclusive, file));
+    fclose(file);
+}
+
 int main(int count, char **words) {
+    const char *const coverage = getenv("COVERAGE");
     lockup_design design;
     uint64_t calls, every;
     uint32_t code = LOCKUP_OK;
@@ -346,12 +356,14 @@ int main(int count, char **words) {
     design.message_at = message_at;
     calls = (uint64_t)atol(words[2]);
     board.record = atoi(words[3]);
+    if (coverage) board.coverage = counts;
     every = is_planted("rarely") ? 60 : 1;
     for (now = 0; now < calls && !code; now++) {
         code = drawn();
         if (!code && now % every == 0) CALL(code, lockup_compare(&board, &design));
     }
     say();
+    if (coverage) write_counts(coverage);
     CHECK(lockup_free(&machine));
     CHECK(lockup_scoreboard_end(&board));
     return code ? 1 : 0;

@@ -208,8 +208,16 @@ def test_scoreboards() -> None:
             _, *said = ran.out.partition("cores ")[0].splitlines() if ran.status else ("", "agree", "")
             same(f"what it says of {what} {place} {key}", said[0], told.out.splitlines()[0])
             same(f"script of {what} {place} {key}", script_of(ran), read(script))
-        told = run([made, "+seed=0", "+calls=150", f"+script={script}", "+plant=issue", "+place=0", "+key=1", "+again"])
+        for seed in range(6):
+            counts, wanted = f"{room}/counts", f"{room}/wanted"
+            run([made, f"+seed={seed}", "+calls=1000", f"+script={script}", f"+coverage={counts}"])
+            run([twin(), str(seed), "1000", "1"], env={**os.environ, "COVERAGE": wanted})
+            same(f"counts of seed {seed}", read(wanted), read(counts))
+        told = run([made, "+seed=0", "+calls=150", f"+script={script}", "+plant=issue", "+place=0", "+key=1", "+again",
+                    f"+coverage={counts}"])
         first, second = told.out.splitlines()[:2]
         want(first.startswith("call "), first)
         same("what it says again", "agree", second)
-        same("script of the second", script_of(run([twin(), "0", "150", "1"])), read(script))
+        again = run([twin(), "0", "150", "1"], env={**os.environ, "COVERAGE": wanted})
+        same("script of the second", script_of(again), read(script))
+        same("counts of the second", read(wanted), read(counts))

@@ -1,13 +1,14 @@
 """What `script --coverage` counts, and what `coverage` adds: of each example the counts are those of the cases that its
 explained answers name; the cells that are listed are those of the tables, as `table --json` has them; and a sum is that of
-the lines of all texts. Lines that can't be read are refused by their numbers."""
+the lines of all texts. Lines that can't be read are refused by their numbers. `walk --coverage` and `run --coverage` have the
+sums of the scripts that `--script` prints, of each round."""
 import json
 import re
 import tempfile
 from collections import Counter
 from functools import cache
 
-from harness import each, lockup, same, write
+from harness import ROOT, Ran, each, lockup, read, same, want, write
 from harness.scripts import example, examples, is_trace
 
 HEAD = "lockup-coverage 1"
@@ -171,3 +172,89 @@ def test_a_first_add() -> None:
     met = {cell: count for cell, count in counts_in(covered("first_add")).items() if count}
     same("first_add", {("cache", "I", "write", "IM_AD"): 1, ("directory", "I", "GetM", "M"): 1,
                        ("cache", "IM_AD", "Data", "M"): 1, ("cache", "M", "load", "M"): 1}, met)
+
+
+# ---- walks and runs
+
+FEW = ["--rounds", "12"]
+MOST = 1 << 64
+
+
+def names_in(folder: str) -> list[str]:
+    return sorted(path.stem for path in (ROOT / "examples" / folder).glob("*.txt"))
+
+
+def coverage_of_scripts(scripts: list[Ran]) -> tuple[int, dict[Cell, int]]:
+    """Returns the worst status of scripts that were printed, and how often their steps met each cell."""
+    texts = [lockup("script", "--coverage", "-", text=it.out).out for it in scripts]
+    total = summed(texts)
+    explained = sum((counted(it.out) for it in scripts), Counter())
+    same("as explained", {cell: explained[cell] for cell in total}, total)
+    return max(it.status for it in scripts), total
+
+
+def rounds_of(text: str, rounds: int, seed: int, *words: str) -> list[Ran]:
+    seeds = [(seed + it) % MOST for it in range(rounds)]
+    return [lockup("walk", "--script", "--seed", str(it), *words, "-", text=text) for it in seeds]
+
+
+@each(lambda: names_in("litmus"))
+def test_a_walk(name: str) -> None:
+    text = read(ROOT / f"examples/litmus/{name}.txt")
+    ran = lockup("walk", "--coverage", *FEW, "--seed", "7", "-", text=text)
+    status, total = coverage_of_scripts(rounds_of(text, 12, 7))
+    same("status", (status, ""), (ran.status, ran.err))
+    same("the counts", total, counts_in(ran.out))
+
+
+MP = "examples/litmus/mp.txt"
+
+
+def test_a_walk_as_long_as_it_says() -> None:
+    text = re.sub("(?m)^rounds .*$", "rounds 3", read(ROOT / MP))
+    want("rounds 3" in text, "the test says no rounds")
+    ran = lockup("walk", "--coverage", "-", text=text)
+    same("status and error", (0, ""), (ran.status, ran.err))
+    same("as many as it says", lockup("walk", "--coverage", "--rounds", "3", "-", text=text).out, ran.out)
+    same("the counts", coverage_of_scripts(rounds_of(text, 3, 1))[1], counts_in(ran.out))
+
+
+def test_seeds_begin_again_behind_the_last() -> None:
+    text = read(ROOT / MP)
+    ran = lockup("walk", "--coverage", "--rounds", "3", "--seed", str(MOST - 1), "-", text=text)
+    same("the counts", coverage_of_scripts(rounds_of(text, 3, MOST - 1))[1], counts_in(ran.out))
+
+
+def test_rounds_that_are_given_up() -> None:
+    """Each goes as far as it may, also behind one that was given up."""
+    text = read(ROOT / MP)
+    for most in ("1", "9", "14"):
+        scripts = rounds_of(text, 12, 1, "--limit", most)
+        status, total = coverage_of_scripts(scripts)
+        ran = lockup("walk", "--coverage", *FEW, "--limit", most, "-", text=text)
+        same(f"status with {most}", (status, ""), (ran.status, ran.err))
+        same(f"the counts with {most}", total, counts_in(ran.out))
+    same("some of the last ended", {0, 1}, {it.status for it in scripts})
+
+
+@each(lambda: names_in("programs"))
+def test_a_run(name: str) -> None:
+    text = read(ROOT / f"examples/programs/{name}.txt")
+    ran = lockup("run", "--coverage", "--seed", "3", "-", text=text)
+    script = lockup("run", "--script", "--seed", "3", "-", text=text)
+    covered = lockup("script", "--coverage", "-", text=script.out)
+    same("status and counts", (script.status, covered.out), (ran.status, ran.out))
+    same("a sum of one", covered.out, lockup("coverage", "-", text=ran.out).out)
+
+
+def test_a_run_within_limits() -> None:
+    text = read(ROOT / "examples/programs/false_sharing.txt")
+    words = ["--outstanding", "1", "--seed", "5"]
+    script = lockup("run", "--script", *words, "-", text=text)
+    same("the counts", coverage_of_scripts([script])[1], counts_in(lockup("run", "--coverage", *words, "-", text=text).out))
+
+
+def test_a_fault_is_that_of_the_walk_or_run() -> None:
+    for kind, text in (("walk", "nonsense\n"), ("walk", ""), ("run", "nonsense\n"), ("run", "cores 0\n")):
+        plain, ran = lockup(kind, "--script", "-", text=text), lockup(kind, "--coverage", "-", text=text)
+        same(f"{kind} {text}", (plain.status, "", plain.err), tuple(ran))

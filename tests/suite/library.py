@@ -280,6 +280,7 @@ OK, NO_MACHINE, OUT_OF_RANGE, NO_MEMORY, IN_USE = range(5)
 FUNCTIONS = {
     "issue": ([0, 0, 0, 0, 0, 0], 3), "evict": ([0, 0], 1), "deliver": ([0, 0, 0, 0], 1), "deliver_next": ([0, 5], 5),
     "hand": ([0, 0], 4), "decide": ([0, 0, 0, 0, 0, 0], 4), "plan": ([0, 0, 0, 0], 4), "next": ([0, 5], 5),
+    "cell_of_issue": ([0, 0, 0, 0, 0, 0], 1), "cell_of_evict": ([0, 0], 1), "cell_of_deliver": ([0, 0, 0, 0], 1),
     "copy_at": ([0, 0], 11), "directory_at": ([0], 11), "quiet": ([], 1), "registers": ([0, 0], 1),
     "register_at": ([0, 0, 0], 5), "targets": ([0, 1], 1), "target_at": ([0, 1, 0], 7), "writebacks": ([0, 0], 1),
     "writeback_at": ([0, 0, 0], 1), "ways": ([0, 0], 1), "way_at": ([0, 0, 0], 1), "messages": ([1], 1),
@@ -292,6 +293,8 @@ PAST = [
     ("issue", 0, 2), ("issue", 1, 256), ("issue", 2, 4), ("evict", 0, 2), ("evict", 1, 16), ("deliver", 0, 5),
     ("deliver", 1, 16), ("deliver", 2, 2), ("deliver_next", 0, 1), ("deliver_next", 1, 6), ("hand", 0, 2), ("hand", 1, 1),
     ("decide", 0, 2), ("decide", 1, 256), ("decide", 2, 4), ("plan", 0, 5), ("plan", 1, 16), ("plan", 2, 2),
+    ("cell_of_issue", 0, 2), ("cell_of_issue", 1, 256), ("cell_of_issue", 2, 4), ("cell_of_evict", 0, 2),
+    ("cell_of_evict", 1, 16), ("cell_of_deliver", 0, 5), ("cell_of_deliver", 1, 16), ("cell_of_deliver", 2, 2),
     ("next", 0, 1), ("next", 1, 6), ("copy_at", 0, 2), ("copy_at", 1, 16), ("directory_at", 0, 16),
     ("word_at", 0, 128), ("counts_of_core", 0, 2), ("counts_of_core", 1, 1), ("counts_of_messages", 0, 1),
     ("entries", 0, 1), ("entry_at", 0, 1), ("entry_at", 1, 1),
@@ -312,10 +315,15 @@ def seen(raw: Raw) -> list:
     return [raw(name, *words, out=FUNCTIONS[name][1]) for name, *words in looks]
 
 
+def nothing(name: str) -> list[int]:
+    """Returns the output of a function that has nothing to say."""
+    return [header_numbers()["LOCKUP_NO_CELL"]] if name.startswith("cell_of_") else [0] * FUNCTIONS[name][1]
+
+
 def test_no_machine() -> None:
     raw = Raw()
     for name, (words, out) in FUNCTIONS.items():
-        same(name, (NO_MACHINE, [0] * out), raw(name, *words, out=out))
+        same(name, (NO_MACHINE, nothing(name)), raw(name, *words, out=out))
     same("free", (NO_MACHINE, []), raw("free"))
     same("the handle", None, raw.handle.value)
 
@@ -333,7 +341,7 @@ def test_out_of_range() -> None:
         words, out = FUNCTIONS[name]
         for number in (least, (1 << 64) - 1):
             changed = [*words[:place], number, *words[place + 1:]]
-            same(f"{name} {changed}", (OUT_OF_RANGE, [0] * out), raw(name, *changed, out=out))
+            same(f"{name} {changed}", (OUT_OF_RANGE, nothing(name)), raw(name, *changed, out=out))
     for words in ([3, 0, 0, 2], [3, 0, 2, 0]):
         same(f"an acknowledgement {words}", (OUT_OF_RANGE, [0]), raw("deliver", *words, out=1))
     same("what is seen afterwards", before, seen(raw))
@@ -1017,7 +1025,7 @@ def test_numbers_of_python() -> None:
             same(f"{kind.__name__}.{member.name}", numbers.get(f"LOCKUP_{name}"), int(member))
     named = {f"LOCKUP_{RENAMED.get(f'{kind.__name__.upper()}_{it.name}', it.name)}" for kind in kinds for it in kind}
     codes = re.compile(r"LOCKUP_(OK|NO_MACHINE|OUT_OF_RANGE|NO_MEMORY|IN_USE|NULL|DIFFERS|NOT_RECORDED|NOT_WRITTEN|CONFIG_\w+"
-                       r"|NO_CORE|UNKNOWN)$")
+                       r"|NO_CORE|UNKNOWN|CELLS|NO_CELL)$")
     same("numbers without a name in Python", [], [it for it in numbers if it not in named and not codes.match(it)])
 
 

@@ -8,8 +8,8 @@ import tempfile
 from functools import cache
 from pathlib import Path
 
-from harness import ROOT, Ran, each, each_refused, lockup, needs, run, same, seconds, want, write
-from harness.library import INCLUDE, shared
+from harness import ROOT, Ran, each, each_refused, lockup, needs, read, run, same, seconds, want, write
+from harness.library import INCLUDE, module, shared
 
 TWIN = ROOT / "tests/harness/twin.c"
 STRICT = ["-pedantic-errors", "-Wall", "-Wextra", "-Werror", "-O1", f"-I{INCLUDE}"]
@@ -164,6 +164,56 @@ def test_recorded_changes() -> None:
     ran = run([twin(), "0", str(CALLS), CHANGES, "issue", "1", "2"])
     said = SAYS.fullmatch(ran.out.splitlines()[1])
     same("the last command is the one that differs", said[3], commands_of(script_of(ran))[-1].partition(" = ")[0])
+
+
+def counted(script: str) -> str:
+    """Returns the counts of a script that wants answers."""
+    ran = lockup("script", "--coverage", "-", text=re.sub("(?m) = .*$", "", script))
+    same("status and error of its coverage", (0, ""), (ran.status, ran.err))
+    return ran.out
+
+
+@seconds(5)
+@each(lambda: ["c89", "c++98"])
+def test_coverage(dialect: str) -> None:
+    """The cells that calls meet are those that the script meets; all of a setting are met by some seed, blocked ones too."""
+    met: dict[str, int] = {}
+    with tempfile.TemporaryDirectory() as room:
+        for seed in SEEDS:
+            ran = run([twin(dialect), str(seed), str(CALLS), ALL], env={**os.environ, "COVERAGE": f"{room}/counts"})
+            counts = read(f"{room}/counts")
+            same(f"counts of seed {seed}", counted(script_of(ran)), counts)
+            for cell, times in (row.rsplit(" ", 1) for row in counts.splitlines()[1:]):
+                met[cell] = met.get(cell, 0) + int(times)
+    want(any(times and cell.endswith(" blocked") for cell, times in met.items()), "no call was blocked")
+    same("cells", [*module().CELLS], sorted(met, key=module().CELLS.index))
+    want(sum(times > 0 for times in met.values()) > 80, f"few cells are met: {met}")
+
+
+def test_names_of_cells() -> None:
+    """In C, Python and SystemVerilog they are those that the program prints, in its order."""
+    printed = [lockup("script", "--coverage", "-", text=f"exclusive {it}\nstats\n").out.splitlines()[1:] for it in ("off", "on")]
+    listed = [[row.rpartition(" ")[0] for row in rows] for rows in printed]
+    cells = module().CELLS
+    same("cells", set(cells), {*listed[0], *listed[1]})
+    for exclusive in (0, 1):
+        same("in order", listed[exclusive], [it for it in cells if it in listed[exclusive]])
+        text = module().coverage_text([0] * len(cells), bool(exclusive))
+        same("of a setting", listed[exclusive], [row.rpartition(" ")[0] for row in text.splitlines()[1:]])
+    shown = of_program(CELLS)
+    same("in C", (0, "".join(f"{it}\n" for it in cells)), (shown.status, shown.out))
+    text = read(ROOT / "systemverilog/lockup_scoreboard.sv")
+    rows = re.search(r"CELLS = \{(.*?)\};", text, re.S)[1]
+    same("in SystemVerilog", [*cells], "".join(re.findall('"(.*)"', rows)).split(","))
+
+
+CELLS = """#include "lockup_scoreboard.h"
+int main(void) {
+    uint64_t cell;
+    for (cell = 0; cell < LOCKUP_CELLS; cell++) puts(LOCKUP_NAME(cell, cell));
+    return LOCKUP_NUMBER(cell, "cache E load E") == 52 ? 0 : 1;
+}
+"""
 
 
 def test_not_recorded() -> None:

@@ -172,13 +172,16 @@ def test_agrees(_: str, name: str, begun: Any) -> None:
     """.. with a machine, whose answers and looks are compared in each field, and with the account; then `lockup test` has
     nothing to say of the script."""
     draw, answers = random.Random(name), set()
-    with module().Scoreboard(**SETTINGS[name]) as board:
+    with module().Scoreboard(**SETTINGS[name], coverage=True) as board:
         design = begun(board)
         for number in range(CALLS):
             answers.add(held(board, design, drawn(draw, board.machine)) is None)
             if number % LOOKS == 0:
                 board.compare(design)
         script = board.script(answers=True)
+        covered = lockup("script", "--coverage", "-", text=board.script())
+        same("coverage", (0, board.coverage_text()), (covered.status, covered.out))
+        want(sum(it > 0 for it in board.coverage) > 12, f"few cells are met: {board.coverage}")
     same("replies were handed out, and there were none", {True, False}, answers)
     want_tested(script, 1)
 
@@ -255,6 +258,12 @@ def test_without_a_record() -> None:
             same("error", "the calls aren't recorded", str(error))
         else:
             raise Different("it has a script")
+        try:
+            board.coverage_text()
+        except ValueError as error:
+            same("error", "cells aren't counted", str(error))
+        else:
+            raise Different("it has counts")
 
 
 def test_replies_to_stores() -> None:

@@ -1,3 +1,4 @@
+pub mod Coverage
 pub mod Pages
 pub mod Table
 pub mod Tests

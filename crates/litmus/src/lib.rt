@@ -5,8 +5,9 @@
 //!   answer beside its command, and [`run_json`] each command as a value of JSON. [`run_chart`] draws the run as a
 //!   sequence diagram, [`run_svg`] one line of it over time (of those that the machine has, [`line_count`]),
 //!   [`run_page`] writes it as a page for a browser, and [`run_waves`] as waves for a wave viewer.
-//! - [`run_coverage`] prints how often a script met each cell of the tables, and a [`Coverage`] adds what was
-//!   printed, for [`print_coverage`] to print.
+//! - [`run_coverage`] prints how often a script met each cell of the tables, [`coverage_walk`] how often the rounds of a
+//!   walk did, and [`coverage_schedule`] a run of programs. A [`Coverage`] adds what was printed, for [`print_coverage`]
+//!   to print.
 //! - [`run_trace`] writes a model checker's trace as a script.
 //! - [`run_prompt`] answers a script's lines one by one, and gives a [`Saver`] the script so far.
 //! - [`run_test`] tests a script against the answers that it wants.
@@ -29,6 +30,7 @@
 //! what comes of it can't be written, is a [`TextFault`]; [`hint`] says what a reader of it may want to know.
 #![tactic(auto)]
 
+pub use coverage::{coverage_schedule, coverage_walk};
 pub use export::{run_export, run_queries};
 pub use history_text::Extent;
 pub use litmus_chart::{line_count, run_chart, run_svg};
@@ -61,6 +63,7 @@ pub use text_hints::{TextKind, hint};
 pub use text_verdicts::{JudgeForm, run_check, run_check_explained, run_check_json, run_judge};
 pub use trace_check::{Reason, Verdict, check_trace};
 
+mod coverage;
 mod export;
 mod legend;
 mod pages;

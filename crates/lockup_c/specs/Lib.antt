@@ -1,4 +1,5 @@
 pub mod Calls
+pub mod Cells
 pub mod Checks
 pub mod Counts
 pub mod Judges

@@ -13,6 +13,7 @@ pub use handle::Handle;
 pub use held::Held;
 pub use histories::JudgedHistories;
 
+mod cells;
 mod check;
 mod codes;
 mod contradiction;

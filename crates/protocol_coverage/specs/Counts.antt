@@ -1,6 +1,6 @@
 -- How often the cells were met: a count for each of them, in their order, or none where it isn't listed.
-use Rattle.std.specs.Prelude.{ℕ, ◌+◌, Bool, true, false, not, List, [], ◌∷◌, Option, Some, None, slice_index_or, slice_set}
-use Rattle.std.specs.Prelude.{if◌then◌else◌, unwrap_or}
+use Rattle.std.specs.Prelude.{◌≡◌, ℕ, ◌+◌, ◌≤◌, ◌^◌, Bool, true, false, not, List, [], ◌∷◌, ◌++◌, drop, take, Option, Some, None}
+use Rattle.std.specs.Prelude.{if◌then◌else◌, slice_index_or, slice_set, unwrap_or}
 use Rattle.cache_table.specs.declared.state.CopyState.TheVariants as copy_states
 use Rattle.directory_table.specs.declared.state.DirState.TheVariants as dir_states
 use Rattle.protocol_coverage.specs.declared.cell.Cell.{Cell}
@@ -46,3 +46,22 @@ counted counts cell times = slice_set counts cell (Some (had counts cell + times
 abbrev pub counted_all : List (Option ℕ) → List ℕ → List (Option ℕ)
 counted_all counts [] = counts
 counted_all counts (cell ∷ cells) = counted_all (counted counts cell 1) cells
+
+-- ---- sums
+
+-- the sum of two counts of a cell, which is listed where one of them is
+abbrev pub sum_of : Option ℕ → Option ℕ → Option ℕ
+sum_of None more = more
+sum_of (Some count) more = Some (count + unwrap_or more 0)
+
+-- .. of each cell
+abbrev pub sums : List (Option ℕ) → List (Option ℕ) → List (Option ℕ)
+sums [] more = []
+sums (count ∷ counts) [] = count ∷ counts
+sums (count ∷ counts) (other ∷ more) = sum_of count other ∷ sums counts more
+
+-- The sum of this cell would be too much: those of the cells before it stand in the place of their counts.
+pub record IsTooOften (old more new : List (Option ℕ)) : Type 0 where
+  pub cell : ℕ
+  pub over : 2 ^ 64 ≤ had old cell + had more cell
+  pub before : new ≡ take cell (sums old more) ++ drop cell old

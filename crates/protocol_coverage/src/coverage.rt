@@ -1,6 +1,6 @@
 //! How often each cell was met.
 ghost use Rattle.std.specs.Prelude.{◌≡◌, ℕ, ◌+◌, ◌≤◌, ◌<◌, ◌^◌, List, Option, IfOk, OnErr, OnOk, map};
-ghost use Rattle.protocol_coverage.specs.Counts.{counted, counted_all, had, listed};
+ghost use Rattle.protocol_coverage.specs.Counts.{IsTooOften, counted, counted_all, had, listed, sums};
 ghost use Rattle.protocol_coverage.specs.declared.cells.TheConstants.{CELLS};
 
 use super::cell::{Cell, Outcome, TableEvent, TableState};
@@ -65,6 +65,21 @@ impl Coverage {
     {
         for cell in cells {
             self.add(*cell as usize, 1)?;
+        }
+        Ok(())
+    }
+
+    /// Adds the counts of another. At Err those of the cells before the one whose sum is too much are added.
+    pub fn add_all(&mut self, other: &Coverage) -> Result<(), TooOften>
+        ensures added { OnOk result (self.new ≡ sums self.old other.now) }
+        ensures full { OnErr result (IsTooOften self.old other.now self.new) }
+    {
+        let counts = other.counts.as_slice();
+        for cell in 0..counts.len() {
+            match counts[cell] {
+                Some(times) => self.add(cell, times)?,
+                None => {}
+            }
         }
         Ok(())
     }

@@ -2,8 +2,9 @@
 //!
 //! - A [`Cell`] is a state of one table, what comes to it, and what follows. [`CELLS`] has each that can be met, in the
 //!   order of the tables; a cell's number is its place there.
-//! - A [`Coverage`] counts how often each cell was met (specs/Counts.antt). [`Coverage::read`] adds the counts that a
-//!   text has, as [`Coverage::write`] writes them (specs/Read.antt). A call takes no memory, but `new`.
+//! - A [`Coverage`] counts how often each cell was met (specs/Counts.antt). [`Coverage::add_all`] adds the counts of
+//!   another, and [`Coverage::read`] those that a text has, as [`Coverage::write`] writes them (specs/Read.antt). A call
+//!   takes no memory, but `new`.
 #![tactic(auto)]
 
 pub use cell::{Cell, Outcome, TableEvent, TableState};

@@ -43,7 +43,8 @@ pub(crate) fn cell_of_delivery(delivery: &DeliveryStep) -> Option<Cell>
     }
 }
 
-fn cell_at(case: Case, outcome: Option<Outcome>) -> Option<Cell>
+/// The cell of a case, where it has this outcome.
+pub fn cell_at(case: Case, outcome: Option<Outcome>) -> Option<Cell>
     ensures { result ≡ cell_at case outcome }
 {
     match outcome {
@@ -106,7 +107,8 @@ const fn state_after(transition: Transition) -> TableState
     }
 }
 
-const fn outcome_of_plan(plan: Plan) -> Option<Outcome>
+/// What is planned for a message.
+pub const fn outcome_of_plan(plan: Plan) -> Option<Outcome>
     ensures { result ≡ outcome_of_plan plan }
 {
     match plan {
@@ -116,7 +118,8 @@ const fn outcome_of_plan(plan: Plan) -> Option<Outcome>
     }
 }
 
-const fn outcome_of_decision(decision: Decision) -> Option<Outcome>
+/// What is decided of a request.
+pub const fn outcome_of_decision(decision: Decision) -> Option<Outcome>
     ensures { result ≡ outcome_of_decision decision }
 {
     match decision {

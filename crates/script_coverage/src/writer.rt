@@ -56,7 +56,8 @@ fn note<W: Write>(cell: Option<Cell>, out: &mut W) -> Result<(), TextFault>
     }
 }
 
-fn number_of(cell: Option<Cell>) -> Option<u8>
+/// The number of a cell, if there is one.
+pub fn number_of(cell: Option<Cell>) -> Option<u8>
     ensures { IsNumberOf cell result }
 {
     match cell {

@@ -1,3 +1,4 @@
+pub mod Cells
 pub mod Judge
 pub mod Looks
 pub mod Simulator

@@ -2,7 +2,8 @@
 //!
 //! - [`Simulator`] is a machine with either kind of miss file. Its calls do what the commands of a script do, and each
 //!   contract says the promise of the slice's own call again (`slice_core_plan`); the others say what a call would do,
-//!   and what there is. [`Simulator::build`] takes what the lines of a script configure.
+//!   which cell of the protocol's tables it would meet (specs/Cells.antt), and what there is. [`Simulator::build`] takes
+//!   what the lines of a script configure.
 //! - [`TraceJudge`] judges a trace entry by entry, as it comes.
 //!
 //! Only these allocate: [`Simulator::build`], [`Simulator::issue`], [`Simulator::register_at`], [`Simulator::core_lines`],
@@ -13,6 +14,7 @@ pub use judge::TraceJudge;
 pub use looks::MissRegister;
 pub use simulator::Simulator;
 
+mod cells;
 mod judge;
 mod looks;
 mod simulator;

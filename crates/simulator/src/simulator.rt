@@ -4,6 +4,7 @@ ghost use Rattle.address_map.specs.Place.{line_of as line_of_word};
 ghost use Rattle.litmus_script.specs.Issued.{IsIssued, IsOutOfMemory};
 ghost use Rattle.litmus_script.specs.Machine.{HasAt, IsAnswered, IsLineView, IsShownWord, log_at};
 ghost use Rattle.litmus_text.specs.Command.{HasCore};
+ghost use Rattle.simulator.specs.Cells.{HasItsCore, MeetsCell};
 ghost use Rattle.simulator.specs.Looks.{IsCountOf, message_at, register_at, waiting_at};
 ghost use Rattle.simulator.specs.Simulator.{IsCopyOf, IsNewSimulator, IsNotBuilt, config_of, slices_of};
 ghost use Rattle.slice_core.specs.Facts.{copy_at, targets_at};
@@ -22,8 +23,9 @@ use super::slices;
 use address_map::{Checked, CoreId, LineAddr, Request, SliceId, WordAddr};
 use arrayvec::ArrayVec;
 use litmus_script::{Issued, Machine};
-use litmus_text::{Settings, TextFault};
+use litmus_text::{Command, Settings, TextFault};
 use mshr_file::{ExplicitFile, InvertedFile, MissKind, Target};
+use protocol_coverage::Cell;
 use slice_core::{
     CacheCopy, Class, CoreLines, Decision, Delivered, DeliveredNext, Entry, Evicted, LineView,
     Message, Numbered, Pick, Plan, Stats,
@@ -166,6 +168,17 @@ impl Simulator {
         match self {
             Simulator::Explicit(machine) => slices::next(machine, slice, class),
             Simulator::Inverted(machine) => slices::next(machine, slice, class),
+        }
+    }
+
+    /// The cell of the tables that a command would meet: an eviction as where the write-back buffer has room for it.
+    pub fn cell(&self, command: Command) -> Option<Cell>
+        requires { HasItsCore (config_of self.now) command }
+        ensures { MeetsCell (config_of self.now) (slices_of self.now) command result }
+    {
+        match self {
+            Simulator::Explicit(machine) => slices::cell(machine, command),
+            Simulator::Inverted(machine) => slices::cell(machine, command),
         }
     }
 

@@ -5,6 +5,7 @@ ghost use Rattle.address_map.specs.Place.{line_of as line_of_word};
 ghost use Rattle.litmus_script.specs.Issued.{IsIssued, IsOutOfMemory};
 ghost use Rattle.litmus_script.specs.Machine.{HasAt, IsAnswered};
 ghost use Rattle.litmus_text.specs.Command.{HasCore};
+ghost use Rattle.simulator.specs.Cells.{HasItsCore, MeetsCell};
 ghost use Rattle.simulator.specs.Looks.{IsCountOf, message_at, register_at, waiting_at};
 ghost use Rattle.slice_core.specs.Facts.{copy_at, targets_at};
 ghost use Rattle.slice_core.specs.declared.run.Call.TheVariants as slice_calls;
@@ -16,13 +17,15 @@ ghost use Rattle.slice_core_steps.specs.CoreLines.{lines_of_core};
 ghost use Rattle.slice_core_steps.specs.declared.core_lines.CoreLines.TheVariants as core_lines;
 ghost use Rattle.slice_queues_message.specs.Pick.{line_of};
 
+use super::cells;
 use super::looks;
 use super::looks::MissRegister;
 use address_map::{CoreId, LineAddr, Request, SliceId};
 use arrayvec::ArrayVec;
 use litmus_script::{Issued, Machine};
-use litmus_text::TextFault;
+use litmus_text::{Command, TextFault};
 use mshr_file::{MissFile, Target};
+use protocol_coverage::Cell;
 use slice_core::{
     CacheCopy, Class, CoreLines, Decision, Delivered, DeliveredNext, Message, Pick, Plan, Stats,
 };
@@ -105,6 +108,27 @@ pub(crate) fn next<F: MissFile>(machine: &Machine<F>, slice: SliceId, class: Cla
     ensures { HasAt machine.now.slices.items slice.0 (λ state. result ≡ next_pick state class) }
 {
     machine.slices[slice.0 as usize].next(class)
+}
+
+pub(crate) fn cell<F: MissFile>(machine: &Machine<F>, command: Command) -> Option<Cell>
+    requires { HasItsCore machine.now.config command }
+    ensures { MeetsCell machine.now.config machine.now.slices.items command result }
+{
+    match command {
+        Command::Issue { core, request } => {
+            let slice = slice_of(machine, request.word.line());
+            cells::of_issue(&machine.slices[slice], core, request)
+        }
+        Command::Evict { core, line } => {
+            let slice = slice_of(machine, line);
+            Some(cells::of_eviction(&machine.slices[slice], core, line))
+        }
+        Command::Deliver(pick) => {
+            let slice = slice_of(machine, pick.line());
+            cells::of_delivery(&machine.slices[slice], pick)
+        }
+        _ => None,
+    }
 }
 
 pub(crate) fn copy<F: MissFile>(

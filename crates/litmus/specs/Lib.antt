@@ -1,3 +1,4 @@
 pub mod Pages
 pub mod Table
 pub mod Tests
+pub mod Traces

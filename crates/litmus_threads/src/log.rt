@@ -1,4 +1,4 @@
-ghost use Rattle.std.specs.Prelude.{◌≡◌, ◌×◌, ¬, All, Contains, IfOk, List, MatchOption};
+ghost use Rattle.std.specs.Prelude.{◌≡◌, All, Contains, IfOk, List, MatchOption};
 ghost use Rattle.litmus_threads.specs.Log.{AreEntriesOf, IsNumbered};
 ghost use Rattle.slice_log.specs.declared.entry.Entry.{Entry};
 

@@ -1,13 +1,14 @@
 //! Traces of schedules: a schedule is printed as a script, that is played, and then each slice's log is written.
-ghost use Rattle.std.specs.Prelude.{◌≡◌, ◌⊎◌, ◌-◌, ◌^◌, ℕ, IfErr, IfOk, OnOk, unwrap_or};
+ghost use Rattle.std.specs.Prelude.{◌≡◌, ◌⊎◌, ◌<◌, ◌-◌, ◌^◌, ℕ, List, [], Option, Some, IfErr, IfOk, OnOk};
+ghost use Rattle.std.specs.Prelude.{unwrap_or};
 ghost use Rattle.std.specs.Io.KnownBytes.{Appends};
-ghost use Rattle.std.specs.Str.Lines.{lines};
 ghost use Rattle.litmus.specs.Tests.{IsOfTest, IsTestNotRun};
 ghost use Rattle.litmus.specs.Traces.{ArePrinted, AreTracesCut, HasTraces, HasTracesFault, IsTracedOn, text_of_slice};
 ghost use Rattle.litmus.specs.Traces.{text_of_slices};
 ghost use Rattle.litmus_script.specs.Machine.{bound_of};
 ghost use Rattle.litmus_script.specs.Play.{IsOfRun};
 ghost use Rattle.litmus_script.specs.Script.{IsPlayedUpTo, Plainly, commands_of};
+ghost use Rattle.litmus_threads.specs.Trace.{heading_of};
 ghost use Rattle.litmus_walk.specs.Script.{PrintsWalk};
 ghost use Rattle.program_run.specs.Run.{IsProgramNotRun, PrintsSchedule, limited_to};
 ghost use Rattle.program_text.specs.Fault.{IsProgramText, programs_of, settings_of};
@@ -166,7 +167,16 @@ fn write_log<F: MissFile, W: Write>(
         (text_of_slice machine.old.config machine.old.slices.items slice.0)) }
     ensures fault { IfErr result IsOfRun }
 {
-    let mut lines = TextWriter { out };
-    written(write_heading(&machine.config, slice, &mut lines))?;
+    name_slice(&machine.config, slice, out)?;
     machine.run(Command::Log(slice), out)
+}
+
+/// Writes the line before a slice's trace, where the machine has several slices.
+fn name_slice<W: Write>(config: &Checked, slice: SliceId, out: &mut W) -> Result<(), TextFault>
+    ensures named { OnOk result
+        (Appends (W.contents out.old) (W.contents out.new) (heading_of config.now slice.0)) }
+    ensures fault { IfErr result IsOfRun }
+{
+    let mut lines = TextWriter { out };
+    written(write_heading(config, slice, &mut lines))
 }

@@ -15,6 +15,9 @@ use Rattle.slice_log.specs.declared.entry.Entry.{Entry}
 abbrev pub numbers_from : ℕ → ℕ → List ℕ
 numbers_from number limit = range_with_len number (limit - number)
 
+pub all_numbers : (limit : ℕ) → numbers_from 0 limit ≡ range_with_len 0 limit
+all_numbers limit = let all : limit - 0 ≡ limit = omega arith in ap (range_with_len 0) all
+
 -- the text of the next number, and then those of the numbers behind it
 pub next_number : (text_of : ℕ → List ℕ) (number limit : ℕ) → number < limit
     → flat_map text_of (numbers_from number limit) ≡ text_of number ++ flat_map text_of (numbers_from (number + 1) limit)

@@ -16,9 +16,9 @@
 //!   [`page_walk`] as that script's page. [`trace_litmus`] writes what a round over threads performed as traces, and
 //!   [`trace_walk`] what such a schedule performs.
 //! - [`run_programs`] runs programs on a random schedule, and reports what each core and each line met.
-//!   [`write_schedule`] prints that schedule as a script, [`page_schedule`] as that script's page, and [`trace_schedule`]
-//!   what it performs as traces; [`Limits`] bound it. [`run_sweep`] runs them once for each row of a [`Sweep`], side by side, and prints the rows.
-//!   [`write_workload`] prints the programs of a workload.
+//!   [`write_schedule`] prints that schedule as a script, [`page_schedule`] as that script's page, and
+//!   [`trace_schedule`] what it performs as traces; [`Limits`] bound it. [`run_sweep`] runs them once for each row of a
+//!   [`Sweep`], side by side, and prints the rows. [`write_workload`] prints the programs of a workload.
 //! - [`check_trace`] judges a trace, and answers its [`Verdict`]; [`run_check`] writes what that comes to,
 //!   [`run_check_explained`] with what was expected of an entry at fault, and [`run_check_json`] both as JSON.
 //!   [`run_judge`] judges it whatever the order in which several cores' entries stand, and prints that in a

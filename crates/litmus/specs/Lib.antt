@@ -2,3 +2,4 @@ pub mod Coverage
 pub mod Pages
 pub mod Table
 pub mod Tests
+pub mod Traces

@@ -14,11 +14,12 @@
 //! - [`run_litmus`] runs a litmus test over threads, and [`run_walk`] on random schedules without any; each counts the
 //!   outcomes. [`run_litmus_as`] and [`run_walk`] print them as a table or as JSON, and tell a [`Progress`] how far they
 //!   are, which with [`Silent`] nobody sees. [`write_walk`] prints a round of such a schedule as a script, and
-//!   [`page_walk`] as that script's page.
+//!   [`page_walk`] as that script's page. [`trace_litmus`] writes what a round over threads performed as traces, and
+//!   [`trace_walk`] what such a schedule performs.
 //! - [`run_programs`] runs programs on a random schedule, and reports what each core and each line met.
-//!   [`write_schedule`] prints that schedule as a script, and [`page_schedule`] as that script's page; [`Limits`] bound
-//!   it. [`run_sweep`] runs them once for each row of a [`Sweep`], side by side, and prints the rows.
-//!   [`write_workload`] prints the programs of a workload.
+//!   [`write_schedule`] prints that schedule as a script, [`page_schedule`] as that script's page, and
+//!   [`trace_schedule`] what it performs as traces; [`Limits`] bound it. [`run_sweep`] runs them once for each row of a
+//!   [`Sweep`], side by side, and prints the rows. [`write_workload`] prints the programs of a workload.
 //! - [`check_trace`] judges a trace, and answers its [`Verdict`]; [`run_check`] writes what that comes to,
 //!   [`run_check_explained`] with what was expected of an entry at fault, and [`run_check_json`] both as JSON.
 //!   [`run_judge`] judges it whatever the order in which several cores' entries stand, and prints that in a
@@ -58,10 +59,11 @@ pub use script_prompt::{Saver, run_prompt};
 pub use script_test::run_test;
 pub use script_waves::run_waves;
 pub use table::{run_table, run_table_cells};
-pub use tests::{run_litmus, run_litmus_as, run_walk, write_walk};
+pub use tests::{run_litmus, run_litmus_as, run_walk, trace_litmus, write_walk};
 pub use text_hints::{TextKind, hint};
 pub use text_verdicts::{JudgeForm, run_check, run_check_explained, run_check_json, run_judge};
 pub use trace_check::{Reason, Verdict, check_trace};
+pub use traces::{trace_schedule, trace_walk};
 
 mod coverage;
 mod export;
@@ -69,3 +71,4 @@ mod legend;
 mod pages;
 mod table;
 mod tests;
+mod traces;

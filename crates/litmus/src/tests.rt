@@ -2,6 +2,7 @@ ghost use Rattle.std.specs.Prelude.{◌-◌, ◌^◌, IfErr, IfOk, Option, unwra
 ghost use Rattle.litmus.specs.Tests.{IsTestNotRun, IsOfTest};
 ghost use Rattle.litmus_rounds.specs.Run.{PrintsWalks};
 ghost use Rattle.litmus_threads.specs.Run.{IsEndOf};
+ghost use Rattle.litmus_threads.specs.Trace.{IsTraceEnd};
 ghost use Rattle.litmus_walk.specs.Script.{PrintsWalk};
 ghost use Rattle.litmus_script.specs.Machine.{bound_of};
 ghost use Rattle.std.specs.Io.KnownBytes.{Appends};
@@ -10,7 +11,7 @@ ghost use Rattle.litmus_outcomes.specs.declared.form.OutcomeForm.TheVariants as 
 use litmus_outcomes::OutcomeForm;
 use litmus_test::{LitmusTest, Progress, Silent};
 use litmus_text::TextFault;
-use litmus_threads::play_test;
+use litmus_threads::{play_test, trace_test};
 use std::alloc::Global;
 use std::io::Write;
 use std::sync::Wait;
@@ -53,6 +54,27 @@ pub fn run_litmus_as<R: Threads + Wait + Sync, W: Write, P: Progress>(
     let test = LitmusTest::read(alloc, input)?;
     let ended = play_test(alloc, rt, &test, seed, limit, form, progress, out);
     // In one call: dropped where it is it would be taken apart, each part with a proof of its own.
+    drop(test);
+    ended
+}
+
+/// Plays the round of this number of a litmus test over threads, and writes the log of each slice as a trace, with what
+/// the audit said of it; or that the round was stuck. Returns the exit status, which is 1 where it was.
+pub fn trace_litmus<R: Threads + Wait + Sync, W: Write>(
+    alloc: Global,
+    rt: &R,
+    input: &[u8],
+    seed: u64,
+    limit: u64,
+    round: u64,
+    out: &mut W,
+) -> Result<u8, TextFault>
+    ensures done { IfOk result (λ status. IsOfTest input.now (λ test. IsTraceEnd test round
+        (λ text. Appends (W.contents out.old) (W.contents out.new) text) status)) }
+    ensures fault { IfErr result (IsTestNotRun input.now) }
+{
+    let test = LitmusTest::read(alloc, input)?;
+    let ended = trace_test(alloc, rt, &test, seed, limit, round, out);
     drop(test);
     ended
 }

@@ -4,16 +4,21 @@ use Rattle.std.proofs.Common.{subst}
 use Rattle.std.specs.Prelude.{IfOk, None, OnOk, Option}
 use Rattle.std.specs.Fmt.{WritesInCalls}
 use Rattle.std.proofs.lemmas.List.Elements.{All-push}
+use Rattle.address_map.specs.declared.config.Config.{Config}
+use Rattle.drain.specs.declared.report.CounterValue.{CounterValue}
 use Rattle.litmus_outcomes.specs.Table.{IsTableOf, TableView}
 use Rattle.litmus_outcomes.specs.declared.named_request.NamedRequest.{NamedRequest}
 use Rattle.litmus_test.specs.declared.test.LitmusTest.{LitmusTest}
+use Rattle.litmus_test.specs.declared.test.Thread.{Thread}
 use Rattle.litmus_text.specs.declared.fault.TextFault.{TextFault}
-use Rattle.litmus_threads.specs.Round.{IsFoundOn, IsOutcomeOf, IsRunOf, IsTableFor, named_requests_of}
+use Rattle.litmus_threads.specs.Found.{IsOutcomeIn}
+use Rattle.litmus_threads.specs.Round.{IsFoundOn, IsOutcomeOf, IsRoundOf, IsRunOf, IsTableFor, named_requests_of}
 use Rattle.litmus_threads.specs.Run.{HasStatus, IsEndOf, IsTold}
 use Rattle.litmus_threads.specs.declared.rounds.Run.{Run}
 use Rattle.litmus_threads.specs.declared.rounds.Run.TheVariants as runs
 use Rattle.litmus_outcomes.specs.Form.{text_of_outcomes, text_of_stuck}
 use Rattle.litmus_outcomes.specs.declared.form.OutcomeForm.{OutcomeForm}
+use Rattle.receipt_ledger.specs.declared.receipt.Receipt.{Receipt}
 
 -- One round more had an outcome of the test, and was counted.
 pub table-more : (test : LitmusTest) (round : ℕ) (old new : TableView) (values shown : List ℕ)
@@ -65,3 +70,17 @@ ended test form (runs.Whole table) written (Ok status) of_test told has =
 ended test form (runs.Stuck round) written (Ok status) of_test told has =
     inr (record { round = round; is_one = of_test; text = told; status_is = has })
 ended test form run written (Err fault) of_test told has = tt
+
+-- A round that was audited has the outcome that is found in its receipts and counters.
+pub found-in : (c : Config) (threads : List Thread) (named_requests : List (Option NamedRequest))
+    (receipts : List Receipt) (counters : List CounterValue) (values : List ℕ)
+    → IsRoundOf c threads receipts counters → IsOutcomeIn receipts counters named_requests values
+    → IsFoundOn c threads named_requests values
+found-in c threads named_requests receipts counters values of_round found = record {
+  cores = of_round.cores;
+  receipts = receipts;
+  counters = counters;
+  made = of_round.made;
+  audited = of_round.audited;
+  found = found;
+}

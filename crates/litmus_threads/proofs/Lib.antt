@@ -1,5 +1,11 @@
 pub mod Asked
 pub mod Dealing
 pub mod Ends
+pub mod Histories
+pub mod Lines
+pub mod Logs
+pub mod Members
+pub mod Owners
 pub mod Programs
 pub mod Replies
+pub mod Traces

@@ -1,7 +1,9 @@
 pub mod Crew
 pub mod Found
+pub mod Log
 pub mod Made
 pub mod Program
 pub mod Round
 pub mod Run
 pub mod Threads
+pub mod Trace

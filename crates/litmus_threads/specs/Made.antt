@@ -4,6 +4,7 @@ use Rattle.std.specs.List.{AllByRecursion}
 use Rattle.address_map.specs.declared.config.Config.{Config}
 use Rattle.core_thread_system.specs.Core.{CoreView, asked_of}
 use Rattle.core_thread_system.specs.Program.{accesses_of}
+use Rattle.drain.specs.Owned.{HasItsOwn}
 use Rattle.litmus_outcomes.specs.NamedRequest.{requests_in}
 use Rattle.litmus_test.specs.declared.test.Action.{Action}
 use Rattle.litmus_test.specs.declared.test.Thread.{Thread}
@@ -16,3 +17,7 @@ HasMadeBelow c limit steps v = (slice : ℕ) → slice < limit → accesses_of (
 -- Each core has made what its thread says, and nothing else.
 abbrev pub HaveMadeAll : Config → List Thread → List CoreView → Type 0
 HaveMadeAll c threads cores = AllByRecursion (λ v. HasMadeBelow c c.slices (steps_at threads v.core) v) cores
+
+-- Each core is one of the machine's, and its receipts of each slice are that slice's own.
+abbrev pub AreOwners : Config → List CoreView → Type 0
+AreOwners c cores = AllByRecursion (λ v. (v.core.0 < c.cores) × HasItsOwn c c.slices v) cores

@@ -11,7 +11,7 @@ use Rattle.litmus_outcomes.specs.declared.named_request.NamedRequest.{NamedReque
 use Rattle.litmus_test.specs.declared.test.LitmusTest.{LitmusTest}
 use Rattle.litmus_test.specs.declared.test.Thread.{Thread}
 use Rattle.litmus_threads.specs.Found.{IsOutcomeIn}
-use Rattle.litmus_threads.specs.Made.{HaveMadeAll}
+use Rattle.litmus_threads.specs.Made.{AreOwners, HaveMadeAll}
 use Rattle.litmus_threads.specs.declared.rounds.Run.{Run}
 use Rattle.litmus_threads.specs.declared.rounds.Run.TheVariants as runs
 use Rattle.receipt_ledger.specs.declared.receipt.Receipt.{Receipt}
@@ -19,6 +19,14 @@ use Rattle.receipt_ledger.specs.declared.receipt.Receipt.{Receipt}
 -- the request of each name of a test
 abbrev pub named_requests_of : LitmusTest → List (Option NamedRequest)
 named_requests_of test = map (named_request_of test) (range_with_len 0 (length test.names.items))
+
+-- The cores of a machine made what the threads say and nothing else, and the machine was audited with them.
+pub record IsRoundOf (c : Config) (threads : List Thread) (receipts : List Receipt) (counters : List CounterValue)
+    : Type 0 where
+  pub cores : List CoreView
+  pub made : HaveMadeAll c threads cores
+  pub owners : AreOwners c cores
+  pub audited : IsAudited c cores receipts counters
 
 -- The cores of a machine made what the threads say and nothing else, the machine was audited with them, and this is
 -- what the audit found: the outcome is told by a legal log of each slice.

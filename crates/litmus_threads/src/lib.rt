@@ -5,6 +5,8 @@
 //!   The outcome is read off the audit (src/found.rt).
 //! - [`play_test`] does so, and writes the table of the outcomes. What was written, and what the exit status says,
 //!   stands in specs/Run.antt.
+//! - [`trace_test`] plays one round, and writes each slice's log as a trace, put together from the audit's receipts
+//!   (src/log.rt), with comment lines behind it (src/notes.rt). What is written stands in specs/Trace.antt.
 //!
 //! No clause says what threads do. So each round sees for itself that every core has asked for just what its thread
 //! says, in each slice in the thread's order (src/made.rt), and doesn't count as played otherwise. An outcome that is
@@ -14,15 +16,20 @@
 //! A round takes memory for its machine and for its cores' programs.
 #![tactic(auto)]
 
+pub use notes::write_heading;
 pub use rounds::{Run, run_test};
 pub use run::play_test;
+pub use trace::trace_test;
 
 mod crew;
 mod found;
+mod log;
 mod machine;
 mod made;
+mod notes;
 mod plan;
 mod program;
 mod rounds;
 mod run;
 mod threads;
+mod trace;

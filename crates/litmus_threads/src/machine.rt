@@ -1,15 +1,14 @@
 ghost use Rattle.std.specs.Prelude.{◌≡◌, IfOk, IfSome};
 ghost use Rattle.receipt_shares.specs.Names.{AreLedgersOf};
-ghost use Rattle.litmus_threads.specs.Round.{IsFoundOn};
+ghost use Rattle.litmus_threads.specs.Round.{IsRoundOf};
 
 use super::crew::Crew;
-use super::found::outcome_of;
 use super::made::have_made_all;
 use super::plan::Plan;
 use address_map::Checked;
 use core_thread::{RunError, run_all};
 use core_thread_system::{All, Core, Open, PortSet, System, SystemBlanks, SystemKeys};
-use drain::{AuditError, AuditFault, Drain, audit, drain};
+use drain::{Audit, AuditError, AuditFault, Drain, audit, drain};
 use litmus_test::LitmusTest;
 use mshr_file::{ExplicitFile, InvertedFile, MissFile, MissKind};
 use std::alloc::AllocError;
@@ -17,15 +16,15 @@ use std::marker::Brand;
 use std::sync::Wait;
 use std::thread::Threads;
 
-/// Plays a round of a test on a new machine. Returns its outcome, or none where the round is stuck.
+/// Plays a round of a test on a new machine. Returns what its audit found, or none where the round is stuck.
 pub(crate) fn play<R: Threads + Wait + Sync>(
     rt: &R,
     test: &LitmusTest<'_>,
     plan: &Plan,
     round: u64,
-) -> Result<Option<Vec<u64>>, AllocError>
-    ensures { IfOk result (λ found. IfSome found (λ values.
-        IsFoundOn test.now.config test.now.threads.items plan.now.named_requests.items values.items)) }
+) -> Result<Option<Audit>, AllocError>
+    ensures { IfOk result (λ played. IfSome played (λ audit.
+        IsRoundOf test.now.config test.now.threads.items audit.receipts.items audit.counters.items)) }
 {
     match test.misses {
         MissKind::Explicit => on_machine::<ExplicitFile, R>(rt, test, plan, round),
@@ -39,9 +38,9 @@ fn on_machine<F: MissFile + Send, R: Threads + Wait + Sync>(
     test: &LitmusTest<'_>,
     plan: &Plan,
     round: u64,
-) -> Result<Option<Vec<u64>>, AllocError>
-    ensures { IfOk result (λ found. IfSome found (λ values.
-        IsFoundOn test.now.config test.now.threads.items plan.now.named_requests.items values.items)) }
+) -> Result<Option<Audit>, AllocError>
+    ensures { IfOk result (λ played. IfSome played (λ audit.
+        IsRoundOf test.now.config test.now.threads.items audit.receipts.items audit.counters.items)) }
 {
     let config = test.config.try_clone(plan.alloc)?;
     let blanks = SystemBlanks::new(config.cores() as u64);
@@ -55,14 +54,14 @@ fn on_named<F: MissFile + Send, M: SystemKeys + Send + Sync, R: Threads + Wait +
     test: &LitmusTest<'_>,
     plan: &Plan,
     round: u64,
-) -> Result<Option<Vec<u64>>, AllocError>
+) -> Result<Option<Audit>, AllocError>
     requires setup { config ≡ M.setup }
     requires ledgers0 { AreLedgersOf M.setup (M.names 0) blanks.slice0 }
     requires ledgers1 { AreLedgersOf M.setup (M.names 1) blanks.slice1 }
     requires ledgers2 { AreLedgersOf M.setup (M.names 2) blanks.slice2 }
     requires ledgers3 { AreLedgersOf M.setup (M.names 3) blanks.slice3 }
-    ensures { IfOk result (λ found. IfSome found (λ values.
-        IsFoundOn M.setup test.now.threads.items plan.now.named_requests.items values.items)) }
+    ensures { IfOk result (λ played. IfSome played (λ audit.
+        IsRoundOf M.setup test.now.threads.items audit.receipts.items audit.counters.items)) }
 {
     let (system, sets) = System::<F, All<M>>::build_checked(plan.alloc, config, blanks)?;
     let played = on_system(rt, &system, sets, test, plan, round);
@@ -79,9 +78,9 @@ fn on_system<F: MissFile + Send, M: SystemKeys + Send + Sync, R: Threads + Wait 
     test: &LitmusTest<'_>,
     plan: &Plan,
     round: u64,
-) -> Result<Option<Vec<u64>>, AllocError>
-    ensures { IfOk result (λ found. IfSome found (λ values.
-        IsFoundOn M.setup test.now.threads.items plan.now.named_requests.items values.items)) }
+) -> Result<Option<Audit>, AllocError>
+    ensures { IfOk result (λ played. IfSome played (λ audit.
+        IsRoundOf M.setup test.now.threads.items audit.receipts.items audit.counters.items)) }
 {
     let mut crew = Crew::deal(plan.alloc, system, sets, &test.threads, plan.seed, round)?;
     let started = run_all(rt, system, &mut crew.jobs, plan.movers, &Open, plan.limit);
@@ -102,9 +101,9 @@ fn end<F: MissFile, M: SystemKeys, R: Wait>(
     cores: Vec<Core<'_, F, All<M>>>,
     test: &LitmusTest<'_>,
     plan: &Plan,
-) -> Result<Option<Vec<u64>>, AllocError>
-    ensures { IfOk result (λ found. IfSome found (λ values.
-        IsFoundOn M.setup test.now.threads.items plan.now.named_requests.items values.items)) }
+) -> Result<Option<Audit>, AllocError>
+    ensures { IfOk result (λ played. IfSome played (λ audit.
+        IsRoundOf M.setup test.now.threads.items audit.receipts.items audit.counters.items)) }
 {
     let mut cores = cores;
     if drain(rt, system, &mut cores, plan.limit) == Drain::Stuck
@@ -113,7 +112,7 @@ fn end<F: MissFile, M: SystemKeys, R: Wait>(
         return Ok(None);
     }
     match audit(rt, plan.alloc, system, cores) {
-        Ok(audit) => outcome_of(plan.alloc, &plan.named_requests, &audit),
+        Ok(audit) => Ok(Some(audit)),
         Err(
             AuditFault {
                 error: AuditError::Memory,

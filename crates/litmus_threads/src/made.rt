@@ -2,7 +2,8 @@ ghost use Rattle.std.specs.Prelude.{◌≡◌, [], ◌∷◌, IsSomeAnd, IsTrue,
 ghost use Rattle.core_thread_system.specs.Core.{asked_of};
 ghost use Rattle.core_thread_system.specs.Program.{accesses_of};
 ghost use Rattle.litmus_outcomes.specs.NamedRequest.{requests_in};
-ghost use Rattle.litmus_threads.specs.Made.{HasMadeBelow, HaveMadeAll};
+ghost use Rattle.drain.specs.Owned.{HasItsOwn};
+ghost use Rattle.litmus_threads.specs.Made.{AreOwners, HasMadeBelow, HaveMadeAll};
 
 use super::threads::steps_at;
 use address_map::{Checked, Op, SliceId, WordAddr, is_of_slice};
@@ -11,14 +12,16 @@ use litmus_test::{Action, Thread};
 use mshr_file::MissFile;
 use receipt_ledger::Ask;
 
-/// Whether each core has asked for just what its thread says. A core without a thread asks for nothing.
+/// Whether each core has asked for just what its thread says. A core without a thread asks for nothing. What the cores
+/// are and have is seen on the way.
 pub(crate) fn have_made_all<F: MissFile, M: SystemNames>(
     config: &Checked,
     threads: &[Thread],
     cores: &[Core<'_, F, M>],
 ) -> bool
     requires { config.now ≡ M.setup }
-    ensures { IsTrue result → HaveMadeAll M.setup threads.now cores.now }
+    ensures made { IsTrue result → HaveMadeAll M.setup threads.now cores.now }
+    ensures owners { IsTrue result → AreOwners M.setup cores.now }
 {
     for core in cores {
         if !has_made(config, steps_at(threads, core.core()), core) {
@@ -35,10 +38,12 @@ fn has_made<F: MissFile, M: SystemNames>(
     core: &Core<'_, F, M>,
 ) -> bool
     requires { config.now ≡ M.setup }
-    ensures { IsTrue result → HasMadeBelow M.setup M.setup.slices steps.now core.now }
+    ensures made { IsTrue result → HasMadeBelow M.setup M.setup.slices steps.now core.now }
+    ensures own { IsTrue result → HasItsOwn M.setup M.setup.slices core.now }
 {
     for slice in 0..config.slices() {
         let slice = SliceId(slice as u8);
+        let _own = core.receipts(slice);
         if !are_asked(config, slice, steps, core) {
             return false;
         }

@@ -1,6 +1,7 @@
-ghost use Rattle.std.specs.Prelude.{IfOk};
-ghost use Rattle.litmus_threads.specs.Round.{IsRunOf};
+ghost use Rattle.std.specs.Prelude.{IfOk, IfSome};
+ghost use Rattle.litmus_threads.specs.Round.{IsFoundOn, IsRunOf};
 
+use super::found::outcome_of;
 use super::machine::play;
 use super::plan::Plan;
 use litmus_outcomes::Outcomes;
@@ -34,11 +35,27 @@ pub fn run_test<R: Threads + Wait + Sync, P: Progress>(
     let plan = Plan::new(alloc, test, seed, limit)?;
     let mut outcomes = Outcomes::new(alloc);
     for round in 0..test.rounds {
-        match play(rt, test, &plan, round)? {
+        match outcome_in(rt, test, &plan, round)? {
             Some(values) => outcomes.add(&values)?,
             None => return Ok(Run::Stuck(round)),
         }
         progress.done(round + 1, test.rounds);
     }
     Ok(Run::Whole(outcomes))
+}
+
+// Plays a round. Returns its outcome, or none where the round is stuck.
+fn outcome_in<R: Threads + Wait + Sync>(
+    rt: &R,
+    test: &LitmusTest<'_>,
+    plan: &Plan,
+    round: u64,
+) -> Result<Option<Vec<u64>>, AllocError>
+    ensures { IfOk result (λ found. IfSome found (λ values.
+        IsFoundOn test.now.config test.now.threads.items plan.now.named_requests.items values.items)) }
+{
+    match play(rt, test, plan, round)? {
+        Some(audit) => outcome_of(plan.alloc, &plan.named_requests, &audit),
+        None => Ok(None),
+    }
 }

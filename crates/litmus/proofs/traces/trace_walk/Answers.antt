@@ -1,0 +1,34 @@
+use Rattle.std.proofs.Common.{List, ℕ, inr, subst}
+use Rattle.litmus.specs.Traces.{HasTraces, HasTracesFault}
+use Rattle.std.proofs.lemmas.Result.{IfErr-weaker, IfOk-weaker}
+use Rattle.litmus.proofs.traces.trace_walk.Goals as goal
+
+pub returns-in-Ok-clause-done : goal.returns-in-Ok-clause-done
+returns-in-Ok-clause-done g c =
+    let read = c.in-Ok.ensures.done in
+    IfOk-weaker c.traces_of.result _ _ (λ status made. record {
+      test = read.test;
+      written = read.written;
+      is = record {
+        script = c.write_walk.new.out.items;
+        printed = rw made.0 read.is;
+        traces = subst (λ (s : List ℕ). HasTraces s (g.W.Write.contents c.args.out.now) (g.W.Write.contents c.traces_of.new.out))
+            c.as_slice.ensures.value made.1;
+      };
+    }) c.traces_of.ensures.traces
+
+pub returns-in-Ok-clause-fault : goal.returns-in-Ok-clause-fault
+returns-in-Ok-clause-fault g c =
+    let read = c.in-Ok.ensures.done in
+    IfErr-weaker c.traces_of.result _ _ (λ fault cut. inr (
+      c.in-Ok.status,
+      record {
+        test = read.test;
+        written = read.written;
+        is = record {
+          script = c.write_walk.new.out.items;
+          printed = read.is;
+          cut = subst (λ (s : List ℕ). HasTracesFault s fault) c.as_slice.ensures.value cut;
+        };
+      },
+    )) c.traces_of.ensures.fault

@@ -1,0 +1,182 @@
+//! Traces of schedules: a schedule is printed as a script, that is played, and then each slice's log is written.
+ghost use Rattle.std.specs.Prelude.{◌≡◌, ◌⊎◌, ◌<◌, ◌-◌, ◌^◌, ℕ, List, [], Option, Some, IfErr, IfOk, OnOk};
+ghost use Rattle.std.specs.Prelude.{unwrap_or};
+ghost use Rattle.std.specs.Io.KnownBytes.{Appends};
+ghost use Rattle.litmus.specs.Tests.{IsOfTest, IsTestNotRun};
+ghost use Rattle.litmus.specs.Traces.{ArePrinted, AreTracesCut, HasTraces, HasTracesFault, IsTracedOn, text_of_slice};
+ghost use Rattle.litmus.specs.Traces.{text_of_slices};
+ghost use Rattle.litmus_script.specs.Machine.{bound_of};
+ghost use Rattle.litmus_script.specs.Play.{IsOfRun};
+ghost use Rattle.litmus_script.specs.Script.{IsPlayedUpTo, Plainly, commands_of};
+ghost use Rattle.litmus_threads.specs.Trace.{heading_of};
+ghost use Rattle.litmus_walk.specs.Script.{PrintsWalk};
+ghost use Rattle.program_run.specs.Run.{IsProgramNotRun, PrintsSchedule, limited_to};
+ghost use Rattle.program_text.specs.Fault.{IsProgramText, programs_of, settings_of};
+ghost use Rattle.program_text.specs.declared.programs.Programs.{Programs};
+
+use super::tests::write_walk;
+use address_map::{Checked, SliceId};
+use litmus_script::{Commands, Machine, Script, TextWriter, written};
+use litmus_text::{Command, TextFault};
+use litmus_threads::write_heading;
+use mshr_file::{ExplicitFile, InvertedFile, MissFile, MissKind};
+use program_run::write_schedule;
+use program_text::Limits;
+use std::alloc::Global;
+use std::io::Write;
+
+/// Writes the log of each slice once the script was played that [`write_walk`] prints, as traces. Returns the exit
+/// status, which is 1 where the round is stuck or was given up.
+pub fn trace_walk<W: Write>(
+    alloc: Global,
+    input: &[u8],
+    seed: u64,
+    limit: Option<u64>,
+    out: &mut W,
+) -> Result<u8, TextFault>
+    ensures done { IfOk result (λ status. IsOfTest input.now (λ test. ArePrinted
+        (PrintsWalk test (bound_of test.misses test.config) seed (unwrap_or limit (2 ^ 64 - 1)) status)
+        (W.contents out.old) (W.contents out.new))) }
+    ensures fault { IfErr result (λ fault. IsTestNotRun input.now fault
+        ⊎ ((status : ℕ) × IsOfTest input.now (λ test. AreTracesCut
+        (PrintsWalk test (bound_of test.misses test.config) seed (unwrap_or limit (2 ^ 64 - 1)) status) fault))) }
+{
+    let mut script = Vec::new(alloc);
+    match write_walk(alloc, input, seed, limit, &mut script) {
+        Ok(status) => traces_of(alloc, script.as_slice(), status, out),
+        // writing to memory fails for want of it
+        Err(TextFault::CannotWrite) => Err(TextFault::NoMemory),
+        Err(fault) => Err(fault),
+    }
+}
+
+/// Writes the log of each slice once the script was played that [`write_schedule`] prints, as traces. Returns the exit
+/// status, which is 1 where nothing can move before the end.
+pub fn trace_schedule<W: Write>(
+    alloc: Global,
+    input: &[u8],
+    given: Limits,
+    seed: u64,
+    out: &mut W,
+) -> Result<u8, TextFault>
+    ensures done { IfOk result (λ status. (programs : Programs)
+        × IsProgramText input.now (settings_of programs) programs.limits (programs_of programs)
+        × ArePrinted
+        (PrintsSchedule (bound_of programs.misses programs.config) (limited_to given programs) seed status)
+        (W.contents out.old) (W.contents out.new)) }
+    ensures fault { IfErr result (λ fault. IsProgramNotRun input.now fault
+        ⊎ ((status : ℕ) × (programs : Programs)
+        × IsProgramText input.now (settings_of programs) programs.limits (programs_of programs)
+        × AreTracesCut
+        (PrintsSchedule (bound_of programs.misses programs.config) (limited_to given programs) seed status)
+        fault)) }
+{
+    let mut script = Vec::new(alloc);
+    match write_schedule(alloc, input, given, seed, &mut script) {
+        Ok(status) => traces_of(alloc, script.as_slice(), status, out),
+        // writing to memory fails for want of it
+        Err(TextFault::CannotWrite) => Err(TextFault::NoMemory),
+        Err(fault) => Err(fault),
+    }
+}
+
+/// Writes the traces of a script that was printed with this status, and returns that.
+fn traces_of<W: Write>(
+    alloc: Global,
+    script: &[u8],
+    status: u8,
+    out: &mut W,
+) -> Result<u8, TextFault>
+    ensures traces { IfOk result (λ s. (s ≡ status) × HasTraces script.now (W.contents out.old) (W.contents out.new)) }
+    ensures fault { IfErr result (HasTracesFault script.now) }
+{
+    match Script::read(alloc, script)? {
+        Some(script) => {
+            trace_script(alloc, script, out)?;
+            Ok(status)
+        }
+        None => Ok(status),
+    }
+}
+
+fn trace_script<W: Write>(
+    alloc: Global,
+    script: Script<'_>,
+    out: &mut W,
+) -> Result<(), TextFault>
+    ensures traced { OnOk result (IsTracedOn script.entry.config (bound_of script.entry.misses script.entry.config)
+        (commands_of script.entry.commands) (W.contents out.old) (W.contents out.new)) }
+    ensures fault { IfErr result (λ fault. IsOfRun fault ⊎ ((after : Option (List ℕ))
+        × IsPlayedUpTo Plainly script.entry.config (bound_of script.entry.misses script.entry.config)
+        (commands_of script.entry.commands) (Some []) after fault)) }
+{
+    let Script {
+        config,
+        misses,
+        commands,
+    } = script;
+    match misses {
+        MissKind::Explicit => trace_on::<ExplicitFile, W>(alloc, config, commands, out),
+        MissKind::Inverted => trace_on::<InvertedFile, W>(alloc, config, commands, out),
+    }
+}
+
+/// .. on a new machine with miss registers of type `F`, whose answers nobody reads.
+fn trace_on<F: MissFile, W: Write>(
+    alloc: Global,
+    config: Checked,
+    commands: Commands<'_>,
+    out: &mut W,
+) -> Result<(), TextFault>
+    ensures traced { OnOk result (IsTracedOn config (F.bound_by config)
+        (commands_of commands.entry) (W.contents out.old) (W.contents out.new)) }
+    ensures fault { IfErr result (λ fault. IsOfRun fault ⊎ ((after : Option (List ℕ))
+        × IsPlayedUpTo Plainly config (F.bound_by config) (commands_of commands.entry) (Some []) after fault)) }
+{
+    let mut machine: Machine<F> = Machine::build(alloc, config)?;
+    let mut answers = Vec::new(alloc);
+    match commands.play(&mut machine, &mut answers) {
+        Ok(()) => write_logs(&mut machine, out),
+        // writing to memory fails for want of it
+        Err(TextFault::CannotWrite) => Err(TextFault::NoMemory),
+        Err(fault) => Err(fault),
+    }
+}
+
+/// Writes the log of each slice as a trace.
+fn write_logs<F: MissFile, W: Write>(machine: &mut Machine<F>, out: &mut W) -> Result<(), TextFault>
+    ensures written { OnOk result (Appends (W.contents out.old) (W.contents out.new)
+        (text_of_slices machine.old.config machine.old.slices.items machine.old.config.slices)) }
+    ensures fault { IfErr result IsOfRun }
+{
+    for slice in 0..machine.config.slices() {
+        write_log(machine, SliceId(slice as u8), out)?;
+    }
+    Ok(())
+}
+
+fn write_log<F: MissFile, W: Write>(
+    machine: &mut Machine<F>,
+    slice: SliceId,
+    out: &mut W,
+) -> Result<(), TextFault>
+    requires { slice.0 < machine.old.config.slices }
+    ensures config { machine.new.config ≡ machine.old.config }
+    ensures slices { OnOk result (machine.new.slices.items ≡ machine.old.slices.items) }
+    ensures written { OnOk result (Appends (W.contents out.old) (W.contents out.new)
+        (text_of_slice machine.old.config machine.old.slices.items slice.0)) }
+    ensures fault { IfErr result IsOfRun }
+{
+    name_slice(&machine.config, slice, out)?;
+    machine.run(Command::Log(slice), out)
+}
+
+/// Writes the line before a slice's trace, where the machine has several slices.
+fn name_slice<W: Write>(config: &Checked, slice: SliceId, out: &mut W) -> Result<(), TextFault>
+    ensures named { OnOk result
+        (Appends (W.contents out.old) (W.contents out.new) (heading_of config.now slice.0)) }
+    ensures fault { IfErr result IsOfRun }
+{
+    let mut lines = TextWriter { out };
+    written(write_heading(config, slice, &mut lines))
+}

@@ -218,6 +218,8 @@ explains each reply (coherent), or none (incoherent, status 1), with what contra
   line 3 before line 4: core 1 asked for both
   ..
 
+With --line the eight words of a line are to have one order of all their accesses.
+
 Where values repeat, orders have to be tried: undecided, status 1, if the limit is reached.
 
 Documents: docs/TEXTS.md (judging without an order)

@@ -1,5 +1,5 @@
 //! Coverage of walks and of schedules: each is printed as a script, and the cells that its steps met are counted.
-ghost use Rattle.std.specs.Prelude.{◌≡◌, ◌⊎◌, ◌%◌, ◌+◌, ◌-◌, ◌^◌, ℕ, List, Option, IfErr, IfOk, unwrap_or};
+ghost use Rattle.std.specs.Prelude.{◌≡◌, ◌⊎◌, ◌-◌, ◌^◌, ℕ, List, Option, IfErr, IfOk, unwrap_or};
 ghost use Rattle.litmus.specs.Coverage.{AreCountsOf, AreCountsOfRounds, HasCounts, HasNoCounts, IsNotCounted, IsRoundNotCounted, status_with};
 ghost use Rattle.litmus.specs.Tests.{IsOfTest, IsTestNotRun};
 ghost use Rattle.litmus_script.specs.Machine.{bound_of};

@@ -9,7 +9,7 @@ from collections import Counter
 from functools import cache
 
 from harness import ROOT, Ran, each, lockup, read, same, want, write
-from harness.scripts import example, examples, is_trace
+from harness.scripts import example, examples, is_command, is_trace
 
 HEAD = "lockup-coverage 1"
 CASE = re.compile(r"   (core|dir) \d+ \((\w+), ([\w-]+(?: home)?)[^:]*\): (.*)")
@@ -228,7 +228,8 @@ def test_seeds_begin_again_behind_the_last() -> None:
 def test_rounds_that_are_given_up() -> None:
     """Each goes as far as it may, also behind one that was given up."""
     text = read(ROOT / MP)
-    for most in ("1", "9", "14"):
+    lengths = sorted(sum(map(is_command, it.out.splitlines())) for it in rounds_of(text, 12, 1))
+    for most in ("1", str(lengths[0] - 1), str(lengths[6])):
         scripts = rounds_of(text, 12, 1, "--limit", most)
         status, total = coverage_of_scripts(scripts)
         ran = lockup("walk", "--coverage", *FEW, "--limit", most, "-", text=text)

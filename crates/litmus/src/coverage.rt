@@ -1,6 +1,6 @@
 //! Coverage of walks and of schedules: each is printed as a script, and the cells that its steps met are counted.
-ghost use Rattle.std.specs.Prelude.{◌≡◌, ◌⊎◌, ◌%◌, ◌+◌, ◌-◌, ◌^◌, ℕ, List, Option, IfErr, IfOk, unwrap_or};
-ghost use Rattle.litmus.specs.Coverage.{AreCountsOf, AreCountsOfRounds, HasCounts, HasNoCounts, IsNotCounted, IsRoundNotCounted};
+ghost use Rattle.std.specs.Prelude.{◌≡◌, ◌⊎◌, ◌-◌, ◌^◌, ℕ, List, Option, IfErr, IfOk, unwrap_or};
+ghost use Rattle.litmus.specs.Coverage.{AreCountsOf, AreCountsOfRounds, HasCounts, HasNoCounts, IsNotCounted, IsRoundNotCounted, status_with};
 ghost use Rattle.litmus.specs.Tests.{IsOfTest, IsTestNotRun};
 ghost use Rattle.litmus_script.specs.Machine.{bound_of};
 ghost use Rattle.litmus_script.specs.Play.{IsOfRun};
@@ -85,16 +85,22 @@ fn count_rounds<P: Progress>(
     let mut status = 0;
     for round in 0..rounds {
         let (more, ended) = count_round(alloc, test, seed.wrapping_add(round), most)?;
-        if coverage.add_all(&more).is_err() {
+        match coverage.add_all(&more) {
+            Ok(()) => {}
             // nobody makes so many steps
-            return Err(TextFault::NoMemory);
+            Err(_) => return Err(TextFault::NoMemory),
         }
-        if ended != 0 {
-            status = ended;
-        }
+        status = status_with(status, ended);
         progress.done(round + 1, rounds);
     }
     Ok((coverage, status))
+}
+
+/// The status of rounds of which one more ended with this one.
+const fn status_with(before: u8, ended: u8) -> u8
+    ensures { result ≡ status_with before ended }
+{
+    if ended == 0 { before } else { ended }
 }
 
 /// The counts of the round of this seed, and its status.

@@ -17,9 +17,8 @@ ghost use Rattle.slice_core_steps.specs.CoreLines.{lines_of_core};
 ghost use Rattle.slice_core_steps.specs.declared.core_lines.CoreLines.TheVariants as core_lines;
 ghost use Rattle.slice_queues_message.specs.Pick.{line_of};
 
-use super::cells;
-use super::looks;
 use super::looks::MissRegister;
+use super::{cells, looks};
 use address_map::{CoreId, LineAddr, Request, SliceId};
 use arrayvec::ArrayVec;
 use litmus_script::{Issued, Machine};

@@ -10,7 +10,7 @@ use Rattle.slice_log.specs.Log.{initially}
 use Rattle.history_judge.specs.Order.{HasNoOrder, IsOrderOf}
 use Rattle.history_judge.specs.declared.access.Access.{Access}
 use Rattle.history_text.specs.Histories.{AreTold, access_on, accesses_at, accesses_in, accesses_of, given_in, init_on}
-use Rattle.history_text.specs.Histories.{inits_at, inits_in, inits_of, row_of, value_in}
+use Rattle.history_text.specs.Histories.{inits_at, inits_in, row_of, value_in}
 use Rattle.history_text.specs.Judged.{IsVerdictOn, order_of}
 use Rattle.history_text.specs.declared.extent.Extent.{Extent}
 use Rattle.history_text.specs.declared.extent.Extent.TheVariants as extents

@@ -105,7 +105,7 @@ impl Histories {
     }
 
     // Whether the line gives a value to a word that was given one.
-    #[tactic(auto, using(crate::proofs::Reading::given_again, crate::proofs::Reading::given_first), unfolding(crate::specs::Judged::IsFresh, crate::specs::Judged::IsGivenAgain))]
+    #[tactic(auto, unfolding(crate::specs::Judged::IsFresh, crate::specs::Judged::IsGivenAgain))]
     fn gave(&self, line: HistoryLine) -> bool
         ensures again { result ≡ true → ((told : List HistoryLine) → AreTold self.now told → IsGivenAgain told line) }
         ensures fresh { result ≡ false → ((told : List HistoryLine) → AreTold self.now told → IsFresh told line) }

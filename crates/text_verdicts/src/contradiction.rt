@@ -1,15 +1,13 @@
 //! The claims of a contradiction as they are printed.
 
+use super::shown::Shown;
 use history_text::{Claim, Reason};
 use std::fmt;
 
 /// A claim as a line of text.
-#[derive(Clone, Copy)]
-pub(super) struct Line(pub Claim);
-
-impl fmt::Display for Line {
+impl fmt::Display for Shown {
     fn fmt<W: fmt::Write>(&self, f: &mut fmt::Formatter<W>) -> fmt::Result {
-        match &self.0 {
+        match &self.claim {
             Claim::Unwritten { line, value } => {
                 write!(f, "line {line}: got {value}, which no access left")
             }
@@ -19,7 +17,11 @@ impl fmt::Display for Line {
                 reason,
             } => {
                 write!(f, "line {first} before line {last}: ")?;
-                write_reason(*first, *last, *reason, f)
+                if self.through == 0 {
+                    write_reason(*first, *last, *reason, f)
+                } else {
+                    write_handed_on(*first, *last, *reason, self.through, f)
+                }
             }
             Claim::Follows { first, last } => write!(f, "so line {first} before line {last}"),
         }
@@ -54,6 +56,31 @@ fn write_reason<W: fmt::Write>(
             out,
             "line {reader} got {value}, which line {last} left, and line {first} was not between"
         ),
+    }
+}
+
+/// A reason whose value came through so many accesses, each of which got what one alone had left and changed it.
+fn write_handed_on<W: fmt::Write>(
+    first: usize,
+    last: usize,
+    reason: Reason,
+    through: usize,
+    out: &mut W,
+) -> fmt::Result {
+    let accesses = if through == 1 { "access" } else { "accesses" };
+    match reason {
+        Reason::Source(value) => write!(
+            out,
+            "line {last} got {value}, which goes back to line {first} through {through} {accesses}"
+        ),
+        Reason::Overwritten { value, source } => {
+            write!(
+                out,
+                "line {first} got {value}, which goes back to line {source} through {through} "
+            )?;
+            write!(out, "{accesses}, and line {last} overwrote")
+        }
+        _ => write_reason(first, last, reason, out),
     }
 }
 

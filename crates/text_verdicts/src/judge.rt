@@ -3,7 +3,8 @@ ghost use Rattle.std.specs.Prelude.{◌≡◌, IfErr, IfOk};
 ghost use Rattle.text_verdicts.specs.Judge.{IsJudgedAs, IsNotJudged, status_of};
 ghost use Rattle.litmus_script.specs.Play.{IsOfRun};
 
-use super::contradiction::{Json, Line};
+use super::contradiction::Json;
+use super::shown::{Shown, shown_claims};
 use address_map::Op;
 use history_judge::Access;
 use history_text::{Claim, Extent, History, Judged, Verdict, claims_of, judge_text};
@@ -61,8 +62,9 @@ fn print<W: Write>(
     ensures fault { IfErr result IsOfRun }
 {
     let claims = claims_in(alloc, judged)?;
+    let lines = shown_claims(alloc, &claims)?;
     let mut answers = TextWriter { out };
-    match write_verdict(judged, form, &claims, &mut answers) {
+    match write_verdict(judged, form, &claims, &lines, &mut answers) {
         Ok(()) => Ok(()),
         Err(_) => Err(TextFault::CannotWrite),
     }
@@ -83,29 +85,30 @@ fn write_verdict<W: fmt::Write>(
     judged: &Judged,
     form: JudgeForm,
     claims: &[Claim],
+    lines: &[Shown],
     out: &mut W,
 ) -> fmt::Result {
     match form {
-        JudgeForm::Text => write_text(judged, claims, out),
+        JudgeForm::Text => write_text(judged, lines, out),
         JudgeForm::Json => write_json(judged, claims, out),
         JudgeForm::Witness(number) => match &judged.verdict {
             Verdict::Coherent(orders) => write_witness(judged, orders, number, out),
-            Verdict::Undecided(_) | Verdict::Incoherent(..) => write_text(judged, claims, out),
+            Verdict::Undecided(_) | Verdict::Incoherent(..) => write_text(judged, lines, out),
         },
     }
 }
 
-fn write_text<W: fmt::Write>(judged: &Judged, claims: &[Claim], out: &mut W) -> fmt::Result {
+fn write_text<W: fmt::Write>(judged: &Judged, lines: &[Shown], out: &mut W) -> fmt::Result {
     let extent = judged.histories.extent();
     match &judged.verdict {
         Verdict::Coherent(orders) => writeln!(out, "coherent {} entries", count(orders)),
         Verdict::Undecided(number) => writeln!(out, "undecided {}", Words(extent, *number)),
         Verdict::Incoherent(number, _) => {
             writeln!(out, "incoherent {}", Words(extent, *number))?;
-            for it in claims {
-                writeln!(out, "{}", Line(*it))?;
+            for it in lines {
+                writeln!(out, "{it}")?;
             }
-            write_end(claims, out)
+            write_end(lines, out)
         }
     }
 }
@@ -157,9 +160,14 @@ fn count(orders: &[Vec<usize>]) -> usize {
 }
 
 /// Writes what the steps lead to: the last one ends where the whole begins.
-fn write_end<W: fmt::Write>(claims: &[Claim], out: &mut W) -> fmt::Result {
-    match claims.last() {
-        Some(Claim::Before { last, .. }) => writeln!(out, "so line {last} before itself"),
+fn write_end<W: fmt::Write>(lines: &[Shown], out: &mut W) -> fmt::Result {
+    match lines.last() {
+        Some(
+            Shown {
+                claim: Claim::Before { last, .. },
+                ..
+            },
+        ) => writeln!(out, "so line {last} before itself"),
         _ => Ok(()),
     }
 }

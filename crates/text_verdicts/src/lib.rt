@@ -11,4 +11,5 @@ pub use judge::{JudgeForm, run_judge};
 mod check;
 mod contradiction;
 mod judge;
+mod shown;
 mod wrong_entry;

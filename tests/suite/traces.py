@@ -2,9 +2,10 @@
 
 Each example of a litmus test and of programs is run on a machine of one, of two and of four slices. Where there are
 several, each slice's trace stands behind a line that names it. Each trace alone is legal by `lockup check`, and has
-exactly the accesses that the text asks of the slice, each core's in its order, which are counted here from the text. The
-comment lines behind the trace of a round over threads say what a replay of its entries finds, which is written here: how
-many accesses each core has, and what each counter has at first, what is added to it, and what it has at the end.
+exactly the accesses that the text asks of the slice, each core's in its order, which are counted here from the text.
+The comment lines behind the trace of a round over threads say what a replay of its entries finds, which is written
+here: how many accesses each core has, and what each counter has at first, what is added to it, and what it has at the
+end.
 
 What `walk` and `run` print is what the commands `log 0`, `log 1`, .. print at the end of the script that `--script`
 prints. A round that is stuck is named, with status 1, and has no trace."""
@@ -29,7 +30,7 @@ Access = tuple[str, ...]
 
 @dataclass
 class Text:
-    """What a litmus test or programs ask for: each core's accesses, in order, and the words with what they begin with."""
+    """What a litmus test or programs ask for: each core's accesses, in order, and what words begin with."""
 
     slices: int = 1
     cores: int = 2
@@ -86,9 +87,17 @@ def parted(out: str, slices: int) -> list[str]:
     return parts[1::2]
 
 
-def replayed(rows: list[list[str]], init: dict[int, int]) -> tuple[dict[int, list[Access]], dict[int, int], dict[int, int]]:
-    """What entries come to: each core's accesses by its numbers, what each word has at the end, and what is added to it.
-    Each reply is what the word had before."""
+@dataclass
+class Replay:
+    """What entries come to: each core's accesses by its numbers, what words have at the end, and what is added."""
+
+    accesses: dict[int, list[Access]]
+    memory: dict[int, int]
+    added: dict[int, int]
+
+
+def replayed(rows: list[list[str]], init: dict[int, int]) -> Replay:
+    """Each reply is what the word had before."""
     numbered, memory, added = {}, dict(init), {}
     for core, seq, _tag, verb, word, *numbers in rows:
         values, (reply, since) = numbers[:VALUES[verb]], map(int, numbers[VALUES[verb]:])
@@ -103,21 +112,23 @@ def replayed(rows: list[list[str]], init: dict[int, int]) -> tuple[dict[int, lis
         mine = numbered.setdefault(int(core), {})
         want(int(seq) not in mine, f"entry {core} {seq} stands twice")
         mine[int(seq)] = (verb, word, *values)
-    return {core: [mine[seq] for seq in sorted(mine)] for core, mine in numbered.items()}, memory, added
+    return Replay({core: [mine[seq] for seq in sorted(mine)] for core, mine in numbered.items()}, memory, added)
 
 
-def comments_on(asked: Text, slice_: int, accesses: dict[int, list[Access]], memory: dict[int, int], added: dict[int, int]) -> list[str]:
-    rows = [f"# core {core}: {len(accesses.get(core, []))} of these accesses, each once" for core in range(asked.cores)]
+def comments_on(asked: Text, slice_: int, it: Replay) -> list[str]:
+    counts = [len(it.accesses.get(core, [])) for core in range(asked.cores)]
+    rows = [f"# core {core}: {count} of these accesses, each once" for core, count in enumerate(counts)]
     for word in asked.counters:
         if word // WORDS_OF_LINE % asked.slices == slice_:
-            first, now = asked.init.get(word, 0), memory.get(word, asked.init.get(word, 0))
-            rows.append(f"# counter {word}: {first} at first, {added.get(word, 0)} added, {now} now")
+            first = asked.init.get(word, 0)
+            now = it.memory.get(word, first)
+            rows.append(f"# counter {word}: {first} at first, {it.added.get(word, 0)} added, {now} now")
     return rows
 
 
 def check_traces(text: str, out: str, is_audited: bool) -> None:
-    """Whether each slice's trace has just what the text asks of the slice, and, where it is audited, the comments that a
-    replay comes to."""
+    """Whether each slice's trace has just what the text asks of the slice, and, where it is audited, the comments that
+    a replay comes to."""
     asked = asked_by(text)
     for slice_, trace in enumerate(parted(out, asked.slices)):
         judged = lockup("check", "-", text=trace)
@@ -127,10 +138,10 @@ def check_traces(text: str, out: str, is_audited: bool) -> None:
         init = {int(row.split()[1]): int(row.split()[2]) for row in rows if row.startswith("init ")}
         same("initial values", {word: value for word, value in asked.init.items()
                                 if word // WORDS_OF_LINE % asked.slices == slice_}, init)
-        accesses, memory, added = replayed(entries, init)
+        replay = replayed(entries, init)
         wanted = {core: asked.of_slice(core, slice_) for core in range(asked.cores)}
-        same(f"slice {slice_}: accesses", {core: its for core, its in wanted.items() if its}, accesses)
-        comments = comments_on(asked, slice_, accesses, memory, added) if is_audited else []
+        same(f"slice {slice_}: accesses", {core: its for core, its in wanted.items() if its}, replay.accesses)
+        comments = comments_on(asked, slice_, replay) if is_audited else []
         same(f"slice {slice_}: comments", comments, [row for row in rows if row.startswith("#")])
 
 
@@ -246,7 +257,7 @@ def test_faults() -> None:
 
 
 def test_parted_by_awk() -> None:
-    """The command of docs/TEXTS.md parts the traces of several slices into files, each of which `lockup check` reads."""
+    """The command of docs/TEXTS.md parts the traces of several slices into files, which `lockup check` reads."""
     command = re.search(r"^lockup litmus \S+ --trace \d+ \| (awk .*)$", read(ROOT / "docs/TEXTS.md"), re.M)
     want(command, "docs/TEXTS.md has no such command")
     text = on_slices(read(TESTS / "counters_in_two_slices.txt"), 2)

@@ -99,11 +99,7 @@ fn traces_of<W: Write>(
     }
 }
 
-fn trace_script<W: Write>(
-    alloc: Global,
-    script: Script<'_>,
-    out: &mut W,
-) -> Result<(), TextFault>
+fn trace_script<W: Write>(alloc: Global, script: Script<'_>, out: &mut W) -> Result<(), TextFault>
     ensures traced { OnOk result (IsTracedOn script.entry.config (bound_of script.entry.misses script.entry.config)
         (commands_of script.entry.commands) (W.contents out.old) (W.contents out.new)) }
     ensures fault { IfErr result (λ fault. IsOfRun fault ⊎ ((after : Option (List ℕ))

@@ -1,7 +1,7 @@
 -- How a run of a litmus test ends, round by round.
 use Rattle.std.proofs.Common.{◌≡◌, ℕ, ◌+◌, ◌∙◌, List, [], ◌∷◌, ◌++◌, Result, Ok, Err, ap, inl, inr, length-append}
 use Rattle.std.proofs.Common.{subst}
-use Rattle.std.specs.Prelude.{IfOk, None, OnOk, Option}
+use Rattle.std.specs.Prelude.{IfOk, IfSome, MatchOption, None, OnOk, Option, Some}
 use Rattle.std.specs.Fmt.{WritesInCalls}
 use Rattle.std.proofs.lemmas.List.Elements.{All-push}
 use Rattle.address_map.specs.declared.config.Config.{Config}
@@ -84,3 +84,13 @@ found-in c threads named_requests receipts counters values of_round found = reco
   audited = of_round.audited;
   found = found;
 }
+
+-- .. if there is one.
+pub found-at : {V : Type 0} (lacks : Type 0) (items : V → List ℕ) (c : Config) (threads : List Thread)
+    (named_requests : List (Option NamedRequest)) (receipts : List Receipt) (counters : List CounterValue)
+    (found : Option V) → IsRoundOf c threads receipts counters
+    → MatchOption found lacks (λ v. IsOutcomeIn receipts counters named_requests (items v))
+    → IfSome found (λ v. IsFoundOn c threads named_requests (items v))
+found-at lacks items c threads named_requests receipts counters None of_round found = tt
+found-at lacks items c threads named_requests receipts counters (Some v) of_round found =
+    found-in c threads named_requests receipts counters (items v) of_round found

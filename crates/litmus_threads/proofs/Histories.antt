@@ -1,5 +1,6 @@
 -- The history of a slice in all receipts: the log that the cores' ports hold is what its receipts are put together to.
-use Rattle.std.proofs.Common.{◌≡◌, ℕ, ◌<◌, ◌≤◌, ◌∙◌, List, [], ◌∷◌, ◌++◌, Some, true, ap, arith, eq-eqb, lt-ltb, map, refl, subst, sym}
+use Rattle.std.proofs.Common.{◌≡◌, ℕ, ◌<◌, ◌≤◌, ◌∙◌, List, [], ◌∷◌, ◌++◌, Some, ap, arith, eq-eqb}
+use Rattle.std.proofs.Common.{lt-ltb, refl, subst, sym}
 use Rattle.std.specs.Prelude.{◌==◌, Contains, if◌then◌else◌, slice_get}
 use Rattle.std.specs.Option.{option_map}
 use Rattle.std.specs.List.{flat_map}

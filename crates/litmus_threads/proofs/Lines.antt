@@ -20,7 +20,8 @@ all_numbers limit = let all : limit - 0 ≡ limit = omega arith in ap (range_wit
 
 -- the text of the next number, and then those of the numbers behind it
 pub next_number : (text_of : ℕ → List ℕ) (number limit : ℕ) → number < limit
-    → flat_map text_of (numbers_from number limit) ≡ text_of number ++ flat_map text_of (numbers_from (number + 1) limit)
+    → flat_map text_of (numbers_from number limit)
+    ≡ text_of number ++ flat_map text_of (numbers_from (number + 1) limit)
 next_number text_of number limit less =
     let one : limit - number ≡ suc (limit - (number + 1)) = omega (arith, less) in
     ap (λ (n : ℕ). flat_map text_of (range_with_len number n)) one

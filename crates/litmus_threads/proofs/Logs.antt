@@ -53,8 +53,9 @@ stands slice receipts whole are number less =
     let (r, has, is) = are.whole number less in (
       has.0,
       slice_get-map (λ (q : Receipt). q.number) receipts has.0
-      ∙ ap (option_map (λ (q : Receipt). q.number)) (slice_get-get_or receipts has.0 r has.1 ∙ ap (λ q. Some q) has.2)
-      ∙ ap (λ n. Some n) is.1,
+          ∙ ap (option_map (λ (q : Receipt). q.number))
+          (slice_get-get_or receipts has.0 r has.1 ∙ ap (λ q. Some q) has.2)
+          ∙ ap (λ n. Some n) is.1,
     )
 
 -- The log has no more entries than there are receipts.

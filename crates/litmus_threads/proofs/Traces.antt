@@ -7,7 +7,7 @@ use Rattle.core_thread_system.specs.Core.{CoreView}
 use Rattle.litmus_threads.specs.Made.{AreOwners}
 use Rattle.litmus_threads.specs.Log.{AreEntriesOf}
 use Rattle.drain.specs.Audited.{IsAudited}
-use Rattle.litmus_threads.specs.Trace.{AreTracesBelow, text_of_slice}
+use Rattle.litmus_threads.specs.Trace.{AreTracesBelow, IsLogOf, text_of_slice}
 use Rattle.address_map.specs.declared.config.Config.{Config}
 use Rattle.drain.specs.declared.report.CounterValue.{CounterValue}
 use Rattle.slice_log.specs.declared.entry.Entry.{Entry}
@@ -33,8 +33,10 @@ traces-more c receipts counters slice before middle after few within so_far next
     let are : AreEntriesOf (record { 0 = slice }) receipts log =
     rw audited.receipts_are (entries-of c cores slice log few within owners settled.history) in
     let one : suc slice ≡ slice + 1 = omega arith in
+    let is : IsLogOf c cores slice log =
+    record { history = settled.history; legal = settled.legal; ordered = settled.ordered } in
     let more : AreTracesBelow c cores counters (suc slice) (text ++ text_of_slice c counters slice log) =
-    (text, log, traces, record { history = settled.history; legal = settled.legal; ordered = settled.ordered }, refl) in (
+    (text, log, traces, is, refl) in (
       text ++ text_of_slice c counters slice log,
       subst (λ (n : ℕ). AreTracesBelow c cores counters n (text ++ text_of_slice c counters slice log)) one more,
       Appends-trans before middle after text (text_of_slice c counters slice log) wrote (next log are),

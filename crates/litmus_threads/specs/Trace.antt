@@ -58,7 +58,7 @@ text_of_slice c counters slice log =
 
 -- ---- of which logs
 
--- The receipts that the cores have of the slice are, by number, exactly this log: it is legal, and in each core's order.
+-- By number, the receipts that the cores have of the slice are exactly this log: it is legal, and in each core's order.
 pub record IsLogOf (c : Config) (cores : List CoreView) (slice : ℕ) (log : List Entry) : Type 0 where
   pub history : AreHistory (ports_of cores slice) log
   pub legal : IsLegal (initially (init_of c slice)) log

@@ -30,7 +30,5 @@ fn receipt_at(receipts: &[Receipt], slice: SliceId, number: u64) -> Option<&Rece
     ensures { MatchOption result (All (λ r. ¬ IsNumbered slice number r) receipts.now)
         (λ receipt. Contains receipts.now receipt.now × IsNumbered slice number receipt.now) }
 {
-    receipts
-        .iter()
-        .find(|receipt| receipt.slice == slice && receipt.number == number)
+    receipts.iter().find(|receipt| receipt.slice == slice && receipt.number == number)
 }

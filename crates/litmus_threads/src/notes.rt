@@ -74,7 +74,8 @@ fn write_counter<W: Write>(
     counter: CounterValue,
     out: &mut W,
 ) -> fmt::Result
-    ensures { OnOk result (WritesInCalls W.write_str_gives out.old (text_of_counter config.now log.now counter) out.new) }
+    ensures { OnOk result (WritesInCalls W.write_str_gives out.old
+        (text_of_counter config.now log.now counter) out.new) }
 {
     let word = counter.word;
     let initial = config.initial_word(word);

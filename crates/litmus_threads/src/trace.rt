@@ -30,9 +30,9 @@ use std::io::Write;
 use std::sync::Wait;
 use std::thread::Threads;
 
-/// Plays the round of this number, whether a run of the test has it or not, and writes the log of each slice as a trace,
-/// with what the audit said of it in comment lines behind it; or that the round was stuck. Returns the exit status, which
-/// is 1 where it was.
+/// Plays the round of this number, whether a run of the test has it or not, and writes the log of each slice as a
+/// trace, with what the audit said of it in comment lines behind it; or that the round was stuck. Returns the exit
+/// status, which is 1 where it was. To put the logs together takes time that grows with the square of the accesses.
 pub fn trace_test<R: Threads + Wait + Sync, W: Write>(
     alloc: Global,
     rt: &R,

@@ -9,8 +9,8 @@ pub returns-clause-done : goal.returns-clause-done
 returns-clause-done g c =
     let contents = g.W.Write.contents in
     let read = c.in_ok-test in
-    let traced : IfOk c.trace_test-ended.result (IsTraceEnd read.test c.args.round (λ text. Appends (contents c.args.out.now)
-    (contents c.trace_test-ended.new.out) text)) = search in
+    let traced : IfOk c.trace_test-ended.result (IsTraceEnd read.test c.args.round
+    (λ text. Appends (contents c.args.out.now) (contents c.trace_test-ended.new.out) text)) = search in
     IfOk-weaker c.trace_test-ended.result _ _ (λ status ends. record {
       test = read.test;
       written = read.ensures.written;

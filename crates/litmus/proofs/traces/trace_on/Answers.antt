@@ -37,9 +37,12 @@ returns g c =
     built.config _ _ _ _ _ refl c.in-Err.ensures.fault in
     record {
       traced = tt;
-      fault = inr (_, inr (record {
-        start = built.slices.items;
-        fresh = c.in_ok-machine.ensures.new;
-        stopped = stopped-on _ _ _ _ _ _ _ same c.new-answers.ensures.items shown;
-      }));
+      fault = inr (
+        _,
+        inr (record {
+          start = built.slices.items;
+          fresh = c.in_ok-machine.ensures.new;
+          stopped = stopped-on _ _ _ _ _ _ _ same c.new-answers.ensures.items shown;
+        }),
+      );
     }

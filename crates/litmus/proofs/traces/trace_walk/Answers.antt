@@ -5,6 +5,7 @@ use Rattle.litmus.proofs.traces.trace_walk.Goals as goal
 
 pub returns-in-Ok-clause-done : goal.returns-in-Ok-clause-done
 returns-in-Ok-clause-done g c =
+    let contents = g.W.Write.contents in
     let read = c.in-Ok.ensures.done in
     IfOk-weaker c.traces_of.result _ _ (λ status made. record {
       test = read.test;
@@ -12,7 +13,7 @@ returns-in-Ok-clause-done g c =
       is = record {
         script = c.write_walk.new.out.items;
         printed = rw made.0 read.is;
-        traces = subst (λ (s : List ℕ). HasTraces s (g.W.Write.contents c.args.out.now) (g.W.Write.contents c.traces_of.new.out))
+        traces = subst (λ (s : List ℕ). HasTraces s (contents c.args.out.now) (contents c.traces_of.new.out))
             c.as_slice.ensures.value made.1;
       };
     }) c.traces_of.ensures.traces

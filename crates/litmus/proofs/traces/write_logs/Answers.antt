@@ -25,17 +25,18 @@ loop-slice-preserved g c =
     let config = c.args.machine.now.config in
     let text_of = text_of_slice config c.args.machine.now.slices.items in
     let i = c.loop-slice.slice in
+    let Wrote : Config → List PartsView → Type 0 = λ m xs.
+    Appends (g.W.Write.contents c.loop-slice.out) (g.W.Write.contents c.write_log.new.out) (text_of_slice m xs i) in
     let one =
-    subst (λ (m : Config). Appends (g.W.Write.contents c.loop-slice.out) (g.W.Write.contents c.write_log.new.out)
-    (text_of_slice m c.args.machine.now.slices.items i)) so_far.config
-    (subst (λ (xs : List PartsView). Appends (g.W.Write.contents c.loop-slice.out) (g.W.Write.contents c.write_log.new.out)
-    (text_of_slice c.loop-slice.machine.config xs i)) so_far.slices c.in_ok-write_log.ensures.written) in
+    subst (λ (m : Config). Wrote m c.args.machine.now.slices.items) so_far.config
+    (subst (Wrote c.loop-slice.machine.config) so_far.slices c.in_ok-write_log.ensures.written) in
     record {
       config = c.in_ok-write_log.ensures.config ∙ so_far.config;
       slices = c.in_ok-write_log.ensures.slices ∙ so_far.slices;
       written = λ after rest.
           so_far.written after
-          (rw (next_number text_of i config.slices (rw c.slices-slice-end.ensures.slices at c.loop-slice-test.true))
+          (rw (next_number text_of i config.slices
+          (rw c.slices-slice-end.ensures.slices at c.loop-slice-test.true))
           (Appends-trans _ _ after (text_of i) (flat_map text_of (numbers_from (i + 1) config.slices)) one rest));
     }
 
@@ -46,4 +47,5 @@ returns-clause-written g c =
     let text_of = text_of_slice config c.args.machine.now.slices.items in
     let i = c.loop-slice.slice in
     so_far.written _
-    (rw (last_number text_of i config.slices (rw c.slices-slice-end.ensures.slices at c.loop-slice-test.false)) (Appends-nil _))
+    (rw (last_number text_of i config.slices
+    (rw c.slices-slice-end.ensures.slices at c.loop-slice-test.false)) (Appends-nil _))

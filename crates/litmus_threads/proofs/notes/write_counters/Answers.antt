@@ -22,7 +22,8 @@ loop-counter-preserved g c = λ new rest.
           (sym c.is_of_slice.ensures ∙ w.if-is_of_slice.true))
           _ _ new w.in_ok-write_counter.ensures (rw w.out-is at rest)
       | else-is_of_slice w ↦
-          rw (at_drop_more text_of counters i _ inside ∙ counters-same config c.args.slice.0 log _ (drop (i + 1) counters)
+          rw (at_drop_more text_of counters i _ inside
+          ∙ counters-same config c.args.slice.0 log _ (drop (i + 1) counters)
           (sym c.is_of_slice.ensures ∙ w.if-is_of_slice.false))
           (rw w.out-is at rest)
     ])

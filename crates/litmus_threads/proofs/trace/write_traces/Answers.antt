@@ -9,7 +9,8 @@ loop-slice-init g c = λ cores owners audited. ([], refl, Appends-nil _)
 pub loop-slice-preserved : goal.loop-slice-preserved
 loop-slice-preserved g c =
     traces-more c.args.config.now c.args.audit.now.receipts.items c.args.audit.now.counters.items c.loop-slice.slice
-    _ _ _ c.slices-slice-end.ensures.allowed.few_slices (rw c.slices-slice-end.ensures.slices at c.loop-slice-test.true) c.loop-slice.invariant
+    _ _ _ c.slices-slice-end.ensures.allowed.few_slices
+    (rw c.slices-slice-end.ensures.slices at c.loop-slice-test.true) c.loop-slice.invariant
     c.in_ok-write_slice.ensures.trace
 
 pub returns-clause-traces : goal.returns-clause-traces

@@ -5,10 +5,12 @@ as `check` refuses it, a history at the first line that can't be read."""
 import json
 import random
 import re
+from dataclasses import replace
+from typing import Callable
 
 from harness import ROOT, each, lockup, read, run, same, seconds, want
 from harness.schema import fits
-from suite.histories import Access, History, drawn, spoiled
+from suite.histories import Access, History, check, drawn, judged, lost, spoiled, stale
 from suite.json_values import schema
 
 BY_HAND = [
@@ -78,20 +80,30 @@ def shuffled(draw: random.Random, words: dict[int, History]) -> list[tuple[int, 
 STEP = re.compile(r"line (\d+) before line (\d+): (?:"
                   r"(?P<core>core (\d+) asked for both)|"
                   r"(?P<interval>the one had ended when the other began)|"
+                  r"(?P<shown>as was shown)|"
                   r"(?P<source>line (\d+) got (\d+), which line (\d+) alone left)|"
                   r"(?P<initial>line (\d+) got (\d+), which the word began with, and line (\d+) changed it)|"
                   r"(?P<raised>line (\d+) got (\d+), which line (\d+) left and line (\d+) overwrote)|"
+                  r"(?P<far>line (\d+) got (\d+), which goes back to line (\d+) through (\d+) access(?:es)?)|"
+                  r"(?P<far_raised>line (\d+) got (\d+), which goes back to line (\d+) through (\d+) access(?:es)?, "
+                  r"and line (\d+) overwrote)|"
                   r"(?P<lowered>line (\d+) got (\d+), which line (\d+) left, and line (\d+) was not between))")
 
 
 class Contradiction:
-    """Follows the lines of a contradiction about a word of a trace."""
+    """Follows the lines of a contradiction about a word of a trace, or about the words of a line."""
 
     def __init__(self, initial: int, accesses: dict[int, Access]) -> None:
-        self.initial, self.accesses, self.before = initial, accesses, set()
+        self.initial, self.accesses, self.before, self.shown = initial, accesses, set(), set()
 
-    def writers(self, value: int) -> list[int]:
-        return [line for line, it in self.accesses.items() if self.changes(line) and it.left(it.reply) == value]
+    def writers(self, reader: int, value: int) -> list[int]:
+        """Returns who left a value in the word of the access that found it."""
+        word = self.accesses[reader].word
+        return [line for line, it in self.accesses.items()
+                if it.word == word and self.changes(line) and it.left(it.reply) == value]
+
+    def overwrites(self, line: int, reader: int) -> bool:
+        return self.changes(line) and self.accesses[line].word == self.accesses[reader].word
 
     def changes(self, line: int) -> bool:
         it = self.accesses[line]
@@ -103,6 +115,12 @@ class Contradiction:
 
     def follows(self, said: str) -> bool:
         """Whether the step follows, from the trace and from those before it."""
+        end = re.fullmatch(r"so line (\d+) before line (\d+)", said)
+        if end:
+            pair = int(end[1]), int(end[2])
+            sound, self.before = pair in self.before, set()
+            self.shown.add(pair)
+            return sound
         match = STEP.fullmatch(said)
         if match is None:
             return False
@@ -113,22 +131,42 @@ class Contradiction:
             sound = a.core == b.core == numbers[0] and one < other
         elif match["interval"]:
             sound = a.end < b.begin
+        elif match["shown"]:
+            sound = (one, other) in self.shown
         elif match["source"]:
-            sound = numbers == [other, self.got(other), one] and self.writers(numbers[1]) == [one] and numbers[1] != self.initial
+            sound = numbers == [other, self.got(other), one] and self.reads(other, numbers[1], one)
         elif match["initial"]:
-            sound = (numbers == [one, self.initial, other] and self.got(one) == self.initial and not self.writers(self.initial)
-                     and self.changes(other))
+            sound = (numbers == [one, self.initial, other] and self.got(one) == self.initial
+                     and not self.writers(one, self.initial) and self.overwrites(other, one))
         elif match["raised"]:
             reader, value, source, _ = numbers
             sound = (reader, numbers[3]) == (one, other) and (source, other) in self.before and self.reads(reader, value, source)
+            sound = sound and self.overwrites(other, reader)
+        elif match["far"]:
+            sound = numbers[:3] == [other, self.got(other), one] and self.goes_back(other, numbers[3]) == one
+        elif match["far_raised"]:
+            source = numbers[2]
+            sound = (numbers[0], numbers[1], numbers[4]) == (one, self.got(one), other) and (source, other) in self.before
+            sound = sound and self.goes_back(one, numbers[3]) == source and self.overwrites(other, one)
         else:
             reader, value, source, between = numbers
             sound = (source, between) == (other, one) and (one, reader) in self.before and self.reads(reader, value, source)
+            sound = sound and self.overwrites(one, reader)
         self.before |= {(one, other)} | {(x, other) for x, y in self.before if y == one}
         return sound
 
     def reads(self, reader: int, value: int, source: int) -> bool:
-        return self.got(reader) == value and value != self.initial and self.writers(value) == [source]
+        return self.got(reader) == value and value != self.initial and self.writers(reader, value) == [source]
+
+
+    def goes_back(self, line: int, through: int) -> int | None:
+        """Returns the access whose value came to this one through so many others."""
+        for _ in range(through + 1):
+            value = self.got(line)
+            if value is None or value == self.initial or len(self.writers(line, value)) != 1:
+                return None
+            line, = self.writers(line, value)
+        return line
 
 
 def is_sound(said: list[str], initial: int, accesses: dict[int, Access]) -> bool:
@@ -136,10 +174,55 @@ def is_sound(said: list[str], initial: int, accesses: dict[int, Access]) -> bool
     if alone:
         line, value = int(alone[1]), int(alone[2])
         told = Contradiction(initial, accesses)
-        return len(said) == 1 and told.got(line) == value != initial and not told.writers(value)
+        return len(said) == 1 and told.got(line) == value != initial and not told.writers(line, value)
     told = Contradiction(initial, accesses)
     end = re.fullmatch(r"so line (\d+) before itself", said[-1])
     return all([told.follows(it) for it in said[:-1]]) and end is not None and (int(end[1]), int(end[1])) in told.before
+
+
+def swapped(draw: random.Random, history: History) -> History:
+    """Returns the history with the answers of two accesses exchanged."""
+    accesses = list(history.accesses)
+    one, other = draw.sample([i for i, it in enumerate(accesses) if it.kind != "store"], 2)
+    replies = accesses[one].reply, accesses[other].reply
+    accesses[one], accesses[other] = replace(accesses[one], reply=replies[1]), replace(accesses[other], reply=replies[0])
+    return replace(history, accesses=tuple(accesses))
+
+
+def twice(draw: random.Random, history: History) -> History:
+    """Returns the history with an answer that is given once more, later."""
+    accesses = list(history.accesses)
+    at = draw.randrange(len(accesses) // 2)
+    accesses.insert(draw.randrange(at + 1, len(accesses) + 1), accesses[at])
+    return replace(history, accesses=tuple(accesses))
+
+
+# what is planted, and in how many words of a line
+PLANTED: list[tuple[str, Callable[[random.Random, History], History], int]] = [
+    ("a_stale_load", stale, 1), ("a_lost_add", lost, 1), ("a_swapped_pair", swapped, 1), ("a_duplicated_answer", twice, 1),
+    ("a_torn_line", stale, 3),
+]
+
+
+@seconds(120)
+@each(lambda: PLANTED)
+def test_contradictions_of_planted_errors_name_at_most_six_accesses(
+        name: str, spoil: Callable[[random.Random, History], History], words: int) -> None:
+    """Each line follows from those before it; where an order is found, it explains the spoiled history too."""
+    draw, found = random.Random(name), 0
+    for _ in range(200):
+        history = spoil(draw, drawn(draw, 400, draw.choice([2, 8, 64]), True, draw.random() < .5, words))
+        ran = lockup("judge", *(["--line"] if words > 1 else []), "-", text=history.text())
+        first, *said = ran.out.splitlines()
+        if first.startswith("incoherent"):
+            found += 1
+            lines = {line: it for line, it in enumerate(history.accesses, 2 + len(history.words()))}
+            want(is_sound(said, history.initial, lines), f"{ran.out}\n{history.text()}")
+            named = {it for line in said for it in re.findall(r"line (\d+)", line)}
+            want(len(named) <= 6 or words > 1 and len(named) <= 12, f"{len(named)} are named: {ran.out}")
+        else:
+            check(history, judged(history), True)
+    want(found >= 100, f"only {found} of 200 were found")
 
 
 @seconds(60)

@@ -12,7 +12,7 @@ use Rattle.core_thread_system.specs.Core.{CoreView, port_at, receipts_of}
 use Rattle.drain.specs.Owned.{HasItsOwn}
 use Rattle.drain.specs.Receipts.{ports_of, receipts_at, receipts_by_core, receipts_of_core}
 use Rattle.litmus_threads.proofs.Members.{below, counted, from-kept, in-all, in-one, is-below, kept}
-use Rattle.litmus_threads.specs.Log.{AreEntriesOf, IsNumbered}
+use Rattle.litmus_threads.specs.Log.{AreEntriesOf}
 use Rattle.litmus_threads.specs.Made.{AreOwners}
 use Rattle.receipt_ledger.specs.History.{AreHistory, receipts_in}
 use Rattle.receipt_ledger.specs.Port.{PortView}

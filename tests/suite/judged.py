@@ -87,6 +87,8 @@ STEP = re.compile(r"line (\d+) before line (\d+): (?:"
                   r"(?P<far>line (\d+) got (\d+), which goes back to line (\d+) through (\d+) access(?:es)?)|"
                   r"(?P<far_raised>line (\d+) got (\d+), which goes back to line (\d+) through (\d+) access(?:es)?, "
                   r"and line (\d+) overwrote)|"
+                  r"(?P<far_lowered>line (\d+) got (\d+), which goes back to line (\d+) through (\d+) access(?:es)?, "
+                  r"and line (\d+) was not between)|"
                   r"(?P<lowered>line (\d+) got (\d+), which line (\d+) left, and line (\d+) was not between))")
 
 
@@ -148,6 +150,10 @@ class Contradiction:
             source = numbers[2]
             sound = (numbers[0], numbers[1], numbers[4]) == (one, self.got(one), other) and (source, other) in self.before
             sound = sound and self.goes_back(one, numbers[3]) == source and self.overwrites(other, one)
+        elif match["far_lowered"]:
+            reader, source = numbers[0], numbers[2]
+            sound = (numbers[1], source, numbers[4]) == (self.got(reader), other, one) and (one, reader) in self.before
+            sound = sound and self.goes_back(reader, numbers[3]) == source and self.overwrites(one, reader)
         else:
             reader, value, source, between = numbers
             sound = (source, between) == (other, one) and (one, reader) in self.before and self.reads(reader, value, source)

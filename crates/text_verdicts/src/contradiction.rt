@@ -80,6 +80,13 @@ fn write_handed_on<W: fmt::Write>(
             )?;
             write!(out, "{accesses}, and line {last} overwrote")
         }
+        Reason::NotBetween { value, reader } => {
+            write!(
+                out,
+                "line {reader} got {value}, which goes back to line {last} through {through} "
+            )?;
+            write!(out, "{accesses}, and line {first} was not between")
+        }
         _ => write_reason(first, last, reason, out),
     }
 }

@@ -162,6 +162,12 @@ fn handed_on(shown: Shown, claim: Claim) -> Option<Shown> {
             last,
             reason: Reason::Overwritten { value, source },
         },
+        (Reason::NotBetween { value, reader }, Reason::NotBetween { reader: before, .. })
+            if first == one && before == other => Claim::Before {
+            first,
+            last,
+            reason: Reason::NotBetween { value, reader },
+        },
         _ => return None,
     };
     Some(Shown {

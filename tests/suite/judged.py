@@ -212,23 +212,24 @@ PLANTED: list[tuple[str, Callable[[random.Random, History], History], int]] = [
 
 @seconds(120)
 @each(lambda: PLANTED)
-def test_contradictions_of_planted_errors_name_at_most_six_accesses(
+def test_contradictions_of_planted_errors(
         name: str, spoil: Callable[[random.Random, History], History], words: int) -> None:
-    """Each line follows from those before it; where an order is found, it explains the spoiled history too."""
-    draw, found = random.Random(name), 0
+    """Each line follows from those before it; where an order is found, it explains the spoiled history too. At most six
+    accesses are named, but of a circle through three values, in which none can be spared: that has at most nine."""
+    draw, sizes = random.Random(name), []
     for _ in range(200):
         history = spoil(draw, drawn(draw, 400, draw.choice([2, 8, 64]), True, draw.random() < .5, words))
         ran = lockup("judge", *(["--line"] if words > 1 else []), "-", text=history.text())
         first, *said = ran.out.splitlines()
         if first.startswith("incoherent"):
-            found += 1
             lines = {line: it for line, it in enumerate(history.accesses, 2 + len(history.words()))}
             want(is_sound(said, history.initial, lines), f"{ran.out}\n{history.text()}")
-            named = {it for line in said for it in re.findall(r"line (\d+)", line)}
-            want(len(named) <= 6 or words > 1 and len(named) <= 12, f"{len(named)} are named: {ran.out}")
+            sizes.append(len({it for line in said for it in re.findall(r"line (\d+)", line)}))
+            want(sizes[-1] <= (9 if words == 1 else 12), f"{sizes[-1]} are named: {ran.out}")
         else:
             check(history, judged(history), True)
-    want(found >= 100, f"only {found} of 200 were found")
+    want(len(sizes) >= 100, f"only {len(sizes)} of 200 were found")
+    want(sum(it <= 6 for it in sizes) >= 0.95 * len(sizes), f"the sizes are {sorted(sizes)}")
 
 
 @seconds(60)

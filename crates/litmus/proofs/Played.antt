@@ -1,5 +1,5 @@
--- Commands that were played on a machine that is built, as they are on one of its configuration; and why a script has no
--- traces.
+-- Commands that were played on a machine that is built, as they are on one of its configuration; and why a script has
+-- no traces.
 use Rattle.std.proofs.Common.{◌≡◌, ◌⊎◌, ℕ, List, [], Option, Some, inl, inr, subst}
 use Rattle.address_map.specs.declared.config.Config.{Config}
 use Rattle.litmus.specs.Traces.{IsNotTraced}

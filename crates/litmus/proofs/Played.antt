@@ -1,8 +1,12 @@
--- Commands that were played on a machine that is built, as they are on one of its configuration.
-use Rattle.std.proofs.Common.{◌≡◌, ℕ, List, [], Option, Some, subst}
+-- Commands that were played on a machine that is built, as they are on one of its configuration; and why a script has
+-- no traces.
+use Rattle.std.proofs.Common.{◌≡◌, ◌⊎◌, ℕ, List, [], Option, Some, inl, inr, subst}
 use Rattle.address_map.specs.declared.config.Config.{Config}
-use Rattle.litmus_script.specs.Play.{PlaysAll, PlaysUpTo}
-use Rattle.litmus_script.specs.Script.{Plainly}
+use Rattle.litmus.specs.Traces.{IsNotTraced}
+use Rattle.litmus_script.specs.Machine.{bound_of}
+use Rattle.litmus_script.specs.Play.{IsOfRun, PlaysAll, PlaysUpTo}
+use Rattle.litmus_script.specs.Script.{IsPlayedUpTo, IsScript, Plainly, commands_of}
+use Rattle.litmus_script.specs.declared.script.Script.{Script}
 use Rattle.litmus_text.specs.declared.fault.TextFault.{TextFault}
 use Rattle.slice_core_plan.specs.Calls.{PartsView}
 
@@ -21,3 +25,12 @@ module _ (built config : Config) (commands : List (ℕ × List (List ℕ))) (sta
   stopped-on fault same none stopped =
       subst (λ (c : Config). PlaysUpTo (Plainly c) c commands start (Some []) answers fault) same
       (subst (λ (xs : List ℕ). PlaysUpTo (Plainly built) built commands start (Some xs) answers fault) none stopped)
+
+-- what keeps the commands of a script from being played keeps its traces from being written
+pub not-traced : (all : List (ℕ × List (List ℕ))) (script : Script) (fault : TextFault) → IsScript all script
+    → IsOfRun fault
+    ⊎ ((after : Option (List ℕ)) × IsPlayedUpTo Plainly script.config (bound_of script.misses script.config)
+    (commands_of script.commands) (Some []) after fault)
+    → IsNotTraced all fault
+not-traced all script fault read (inl of_run) = inl of_run
+not-traced all script fault read (inr (after, stopped)) = inr (after, inr (script.config, _, _, read, stopped))

@@ -12,7 +12,7 @@ returns-in-Ok-clause-done g c =
       read.1,
       record {
         script = c.write_schedule.new.out.items;
-        printed = rw made.0 read.2;
+        printed = rw made.0 (rw c.new-script.ensures.items at read.2);
         traces = subst (λ (s : List ℕ). HasTraces s (contents c.args.out.now) (contents c.traces_of.new.out))
             c.as_slice.ensures.value made.1;
       },
@@ -27,7 +27,7 @@ returns-in-Ok-clause-fault g c =
       read.1,
       record {
         script = c.write_schedule.new.out.items;
-        printed = read.2;
+        printed = rw c.new-script.ensures.items at read.2;
         cut = subst (λ (s : List ℕ). HasTracesFault s fault) c.as_slice.ensures.value cut;
       },
     )) c.traces_of.ensures.fault

@@ -12,7 +12,7 @@ returns-in-Ok-clause-done g c =
       written = read.written;
       is = record {
         script = c.write_walk.new.out.items;
-        printed = rw made.0 read.is;
+        printed = rw made.0 (rw c.new-script.ensures.items at read.is);
         traces = subst (λ (s : List ℕ). HasTraces s (contents c.args.out.now) (contents c.traces_of.new.out))
             c.as_slice.ensures.value made.1;
       };
@@ -28,7 +28,7 @@ returns-in-Ok-clause-fault g c =
         written = read.written;
         is = record {
           script = c.write_walk.new.out.items;
-          printed = read.is;
+          printed = rw c.new-script.ensures.items at read.is;
           cut = subst (λ (s : List ℕ). HasTracesFault s fault) c.as_slice.ensures.value cut;
         };
       },

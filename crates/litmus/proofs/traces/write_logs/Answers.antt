@@ -1,11 +1,11 @@
-use Rattle.std.proofs.Common.{refl, subst, ◌+◌, ◌∙◌, List, ℕ}
+use Rattle.std.proofs.Common.{refl, subst, ◌+◌, ◌∙◌, List}
 use Rattle.std.specs.Io.KnownBytes.{Appends}
 use Rattle.address_map.specs.declared.config.Config.{Config}
 use Rattle.slice_core_plan.specs.Calls.{PartsView}
 use Rattle.std.proofs.KnownBytes.{Appends-nil, Appends-trans}
 use Rattle.std.specs.List.{flat_map}
 use Rattle.litmus_threads.proofs.Lines.{all_numbers, last_number, next_number, numbers_from}
-use Rattle.litmus.specs.Traces.{text_of_slice, text_of_slices}
+use Rattle.litmus.specs.Traces.{text_of_slice}
 use Rattle.litmus.proofs.traces.write_logs.Goals as goal
 
 pub loop-slice-init : goal.loop-slice-init

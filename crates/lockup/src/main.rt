@@ -201,7 +201,7 @@ where
             line: Some(line),
             ..
         } if status == REFUSED => complain_of_line(rt, people, line, input),
-        CommandLine::Litmus { .. }
+        CommandLine::Litmus { trace: None, .. }
         | CommandLine::Walk {
             form: ScheduleForm::Report { .. },
             ..

@@ -215,7 +215,7 @@ PLANTED: list[tuple[str, Callable[[random.Random, History], History], int]] = [
 def test_contradictions_of_planted_errors(
         name: str, spoil: Callable[[random.Random, History], History], words: int) -> None:
     """Each line follows from those before it; where an order is found, it explains the spoiled history too. At most six
-    accesses are named, but of a circle through three values, in which none can be spared: that has at most nine."""
+    accesses are named, but of circles through three values or more, in which none can be spared."""
     draw, sizes = random.Random(name), []
     for _ in range(200):
         history = spoil(draw, drawn(draw, 400, draw.choice([2, 8, 64]), True, draw.random() < .5, words))
@@ -225,13 +225,13 @@ def test_contradictions_of_planted_errors(
             lines = {line: it for line, it in enumerate(history.accesses, 2 + len(history.words()))}
             want(is_sound(said, history.initial, lines), f"{ran.out}\n{history.text()}")
             sizes.append(len({it for line in said for it in re.findall(r"line (\d+)", line)}))
-            want(sizes[-1] <= (9 if words == 1 else 12), f"{sizes[-1]} are named: {ran.out}")
+            want(sizes[-1] <= (9 if words == 1 else 20), f"{sizes[-1]} are named: {ran.out}")
         elif first.startswith("coherent"):
             check(history, judged(history), True)
         else:
-            want(words > 1, ran.out)
+            want(words > 1 or not history.has_known_sources(), ran.out)
     want(len(sizes) >= 100, f"only {len(sizes)} of 200 were found")
-    want(sum(it <= 6 for it in sizes) >= 0.95 * len(sizes), f"the sizes are {sorted(sizes)}")
+    want(sum(it <= 6 for it in sizes) >= (0.97 if words == 1 else 0.9) * len(sizes), f"the sizes are {sorted(sizes)}")
 
 
 @seconds(60)

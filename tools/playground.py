@@ -102,7 +102,8 @@ def latin(text):
 def page_of(module, frame, version, opened):
     """Returns the page, which opens with a text, if there is one."""
     with open(module, "rb") as it:
-        packed = base64.b64encode(gzip.compress(it.read(), 9, mtime=0)).decode()
+        # in five signs of 85 for four bytes, of which none begins an element
+        packed = base64.b85encode(gzip.compress(it.read(), 9, mtime=0)).decode().replace("<", ",")
     data = {"frame": frame, "worker": without_exports(read("machine.mjs")) + read("worker.js"), "texts": texts(), "opened": opened,
             "about": f"{version}, the whole program in this page. It takes nothing from a network, and sends nothing."}
     code = "'use strict';\n" + "\n".join(read(f"page/{name}.js") for name in CODE)

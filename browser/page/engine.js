@@ -1,8 +1,26 @@
 // ---- the program: a worker that has it, and what is asked of it
 
-// Gives the bytes of a text of base64 that gzip made.
+// The signs of the program's text, by value: five of them are four bytes.
+const SIGNS = '0123456789ABCDEFGHIJKLMNOPQRSTUVWXYZabcdefghijklmnopqrstuvwxyz!#$%&()*+-;,=>?@^_`{|}~';
+
+// Gives the bytes of a text; past its end stands the last sign.
+function bytesOf(text) {
+    const values = new Uint8Array(128);
+    [...SIGNS].forEach((it, value) => { values[it.charCodeAt(0)] = value; });
+    const words = new DataView(new ArrayBuffer(Math.ceil(text.length / 5) * 4));
+    for (let at = 0; at < text.length; at += 5) {
+        let word = 0;
+        for (let sign = at; sign < at + 5; sign++) {
+            word = word * 85 + (sign < text.length ? values[text.charCodeAt(sign)] : 84);
+        }
+        words.setUint32(at / 5 * 4, word);
+    }
+    return new Uint8Array(words.buffer, 0, Math.floor(text.length * 4 / 5));
+}
+
+// Gives the bytes that gzip made to such a text.
 async function unpacked(text) {
-    const packed = Uint8Array.from(atob(text), it => it.charCodeAt(0));
+    const packed = bytesOf(text);
     const stream = new Blob([packed]).stream().pipeThrough(new DecompressionStream('gzip'));
     return new Response(stream).arrayBuffer();
 }

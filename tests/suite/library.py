@@ -549,7 +549,7 @@ def test_handles_of_the_other_kind() -> None:
     same("free", OK, raw("free")[0])
     same("new", OK, raw("check_new")[0])
     for name, (words, out) in FUNCTIONS.items():
-        same(f"{name} of a trace", (NO_MACHINE, [0] * out), raw(name, *words, out=out))
+        same(f"{name} of a trace", (NO_MACHINE, nothing(name)), raw(name, *words, out=out))
     same("a machine in its place", IN_USE, raw.make())
     same("the trace is there", (OK, [0, 0]), raw("check_verdict", out=2))
     same("free", OK, raw("check_free")[0])

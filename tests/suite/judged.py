@@ -215,7 +215,7 @@ PLANTED: list[tuple[str, Callable[[random.Random, History], History], int]] = [
 def test_contradictions_of_planted_errors(
         name: str, spoil: Callable[[random.Random, History], History], words: int) -> None:
     """Each line follows from those before it; where an order is found, it explains the spoiled history too. At most six
-    accesses are named, but of circles through three values or more, in which none can be spared."""
+    accesses are named of nearly all; that of a line may be longer, since its chains are told one after another."""
     draw, sizes = random.Random(name), []
     for _ in range(200):
         history = spoil(draw, drawn(draw, 400, draw.choice([2, 8, 64]), True, draw.random() < .5, words))

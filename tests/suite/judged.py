@@ -215,7 +215,7 @@ PLANTED: list[tuple[str, Callable[[random.Random, History], History], int]] = [
 def test_contradictions_of_planted_errors(
         name: str, spoil: Callable[[random.Random, History], History], words: int) -> None:
     """Each line follows from those before it; where an order is found, it explains the spoiled history too. At most six
-    accesses are named of nearly all; that of a line may be longer, since its chains are told one after another."""
+    accesses are named of all but a few, which have no shorter contradiction of their kind (as the next test's)."""
     draw, sizes = random.Random(name), []
     for _ in range(200):
         history = spoil(draw, drawn(draw, 400, draw.choice([2, 8, 64]), True, draw.random() < .5, words))
@@ -225,13 +225,66 @@ def test_contradictions_of_planted_errors(
             lines = {line: it for line, it in enumerate(history.accesses, 2 + len(history.words()))}
             want(is_sound(said, history.initial, lines), f"{ran.out}\n{history.text()}")
             sizes.append(len({it for line in said for it in re.findall(r"line (\d+)", line)}))
-            want(sizes[-1] <= (9 if words == 1 else 20), f"{sizes[-1]} are named: {ran.out}")
+            want(sizes[-1] <= 12, f"{sizes[-1]} are named: {ran.out}")
         elif first.startswith("coherent"):
             check(history, judged(history), True)
         else:
             want(words > 1 or not history.has_known_sources(), ran.out)
     want(len(sizes) >= 100, f"only {len(sizes)} of 200 were found")
-    want(sum(it <= 6 for it in sizes) >= (0.97 if words == 1 else 0.9) * len(sizes), f"the sizes are {sorted(sizes)}")
+    want(sum(it <= 6 for it in sizes) >= (1 if words == 1 else 0.97) * len(sizes), f"the sizes are {sorted(sizes)}")
+
+
+def ran_here(draw: random.Random, words: list[int], cores: int) -> History:
+    """Returns the history of a run of our own, of random accesses whose values are stored once."""
+    lines, new = [f"cores {cores}", "outstanding 4"], 0
+    for core in range(cores):
+        lines.append(f"core {core}")
+        for _ in range(max(3, 400 // cores)):
+            new += 1000
+            said = draw.choices(["load {}", "store {} {}", "add {} {}", "cas {} 0 {}"], [9, 6, 4, 1])[0]
+            lines.append(said.format(draw.choice(words), draw.randrange(1, 50) if said.startswith("add") else new))
+    seed = str(draw.randrange(1, 1 << 32))
+    ran = lockup("run", "--trace", "--seed", seed, "-", text="\n".join([*lines, ""]))
+    accesses = []
+    for _, core, _, _, kind, word, *values, reply, _ in map(str.split, ran.out.splitlines()[1:]):
+        accesses.append(Access(int(core), kind, tuple(map(int, values)), int(reply), word=int(word)))
+    return History(0, tuple(accesses))
+
+
+@seconds(120)
+@each(lambda: PLANTED)
+def test_errors_planted_in_runs_of_ours(
+        name: str, spoil: Callable[[random.Random, History], History], words: int) -> None:
+    draw, sizes = random.Random(f"ours {name}"), []
+    for _ in range(60):
+        history = spoil(draw, ran_here(draw, [9, 10, 11][:words], draw.choice([2, 8, 64])))
+        ran = lockup("judge", *(["--line"] if words > 1 else []), "-", text=history.text())
+        first, *said = ran.out.splitlines()
+        if first.startswith("incoherent"):
+            lines = {line: it for line, it in enumerate(history.accesses, 2 + len(history.words()))}
+            want(is_sound(said, 0, lines), f"{ran.out}\n{history.text()}")
+            sizes.append(len({it for line in said for it in re.findall(r"line (\d+)", line)}))
+    want(len(sizes) >= 30 and max(sizes) <= 12, f"{len(sizes)} of 60 were found, of the sizes {sorted(sizes)}")
+    want(sum(it <= 6 for it in sizes) >= 0.95 * len(sizes), f"the sizes are {sorted(sizes)}")
+
+
+def test_a_contradiction_that_needs_many() -> None:
+    """Four stores, and four cores of which each read two: the last one's second answer is stale, and each access is needed:
+    without any one of them there is an order."""
+    stores = [Access(core, "store", (core + 1,), 0) for core in range(4)]
+    readers = [Access(4 + core, "load", (), value) for core in range(4) for value in (core + 1, (core + 1) % 4 + 1)]
+    whole = History(0, (*stores, *readers))
+    want(not whole.is_coherent(), "there is an order")
+    for place, access in enumerate(whole.accesses):
+        rest = whole.accesses[:place] + whole.accesses[place + 1:]
+        if access.kind == "store":
+            # who found its value is then free to have found anything
+            rest = tuple(it for it in rest if it.reply != access.words[0])
+        want(History(0, rest).is_coherent(), f"it is incoherent without {access}")
+    first, *said = lockup("judge", "-", text=whole.text()).out.splitlines()
+    accesses = dict(enumerate(whole.accesses, 3))
+    want(first == "incoherent word 9" and is_sound(said, 0, accesses), "\n".join(said))
+    same("named", set(accesses), {int(it) for line in said for it in re.findall(r"line (\d+)", line)})
 
 
 @seconds(60)

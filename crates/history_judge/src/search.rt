@@ -75,21 +75,25 @@ fn of_words(
 ) -> Result<Judgement, AllocError> {
     let plan = Plan::of(alloc, history, sources)?;
     let closure = Closure::of(alloc, history, sources, &plan)?;
-    let Some(circle) = closure.circle else {
+    if closure.circles.is_empty() {
         let known = explore::Known {
             plan: &plan,
             closure: &closure,
             sources,
         };
         return explore::explored(alloc, initial, history, Some(known), limit);
-    };
-    match telling::told(alloc, &plan, &closure, circle)? {
-        Some(reason) => {
-            let shorter = shorten::shortened(alloc, initial, history, reason)?;
-            Ok(Judgement::Incoherent(shorter))
-        }
-        None => Ok(Judgement::Undecided),
     }
+    let mut shortest = None;
+    for circle in &closure.circles {
+        if let Some(reason) = telling::told(alloc, &plan, &closure, *circle)? {
+            let reason = shorten::shortened(alloc, initial, history, reason)?;
+            shortest = Some(shorten::shorter(alloc, shortest, reason)?);
+        }
+    }
+    Ok(match shortest {
+        Some(reason) => Judgement::Incoherent(reason),
+        None => Judgement::Undecided,
+    })
 }
 
 // A contradiction of accesses of one word or of several, if one is found.
@@ -107,10 +111,13 @@ fn contradicted(
     }
     let plan = Plan::of(alloc, history, sources)?;
     let closure = Closure::of(alloc, history, sources, &plan)?;
-    match closure.circle {
-        Some(circle) => telling::told(alloc, &plan, &closure, circle),
-        None => Ok(None),
+    let mut shortest = None;
+    for circle in &closure.circles {
+        if let Some(reason) = telling::told(alloc, &plan, &closure, *circle)? {
+            shortest = Some(shorten::shorter(alloc, shortest, reason)?);
+        }
     }
+    Ok(shortest)
 }
 
 // Orders the clusters of a history: a value that is left, and all accesses that found it.

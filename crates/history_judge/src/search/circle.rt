@@ -7,8 +7,10 @@ use std::alloc::{AllocError, Global};
 
 const CORES: usize = 256;
 
-/// How many clusters are tried as the first of a circle.
+/// How many clusters are tried as the first of a circle, and of how many each is.
 const TRIES: usize = 8;
+
+const FEW: usize = 1000;
 
 /// Returns the ways around a short circle of clusters, of which one leads through this cluster.
 pub fn shortest(alloc: Global, graph: &Graph, root: usize) -> Result<Vec<Link>, AllocError> {
@@ -18,6 +20,15 @@ pub fn shortest(alloc: Global, graph: &Graph, root: usize) -> Result<Vec<Link>, 
             break;
         };
         let other = found(alloc, graph, at(&graph.cluster, link.first, NONE))?;
+        if !other.is_empty() && other.len() < best.len() {
+            best = other;
+        }
+    }
+    if graph.count > FEW {
+        return Ok(best);
+    }
+    for cluster in 1..graph.count {
+        let other = found(alloc, graph, cluster)?;
         if !other.is_empty() && other.len() < best.len() {
             best = other;
         }

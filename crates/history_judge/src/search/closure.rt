@@ -11,6 +11,9 @@ use std::alloc::{AllocError, Global};
 /// How often all accesses are gone over.
 const PASSES: usize = 64;
 
+/// How many circles are noted.
+const CIRCLES: usize = 16;
+
 /// No edge.
 const NO_EDGE: u32 = u32::MAX;
 
@@ -39,8 +42,8 @@ pub struct Closure {
     clocks: Vec<u32>,
     causes: Vec<u32>,
     pub edges: Vec<Edge>,
-    /// An edge from an access that comes behind the edge's end.
-    pub circle: Option<Edge>,
+    /// Edges from accesses that come behind the edge's end.
+    pub circles: Vec<Edge>,
     is_changed: bool,
 }
 
@@ -57,13 +60,13 @@ impl Closure {
             clocks: vec![in alloc; 0; size]?,
             causes: vec![in alloc; NO_EDGE; size]?,
             edges: Vec::new(alloc),
-            circle: None,
+            circles: Vec::new(alloc),
             is_changed: false,
         };
         for _ in 0..PASSES {
             closure.is_changed = false;
             closure.go_over(alloc, history, sources, plan)?;
-            if closure.circle.is_some() || !closure.is_changed {
+            if !closure.circles.is_empty() || !closure.is_changed {
                 break;
             }
         }
@@ -197,11 +200,11 @@ impl Closure {
     // Notes that one access comes before another, and all that come before it.
     fn note(&mut self, plan: &Plan, edge: Edge) -> Result<(), AllocError> {
         let core = at(&plan.core, edge.last, NONE);
-        if self.circle.is_some() || self.edges.len() >= NO_EDGE as usize {
+        if self.circles.len() >= CIRCLES || self.edges.len() >= NO_EDGE as usize {
             return Ok(());
         }
         if self.behind(plan, edge.first, core) > at(&plan.rank, edge.last, 0) {
-            self.circle = Some(edge);
+            self.circles.push(edge)?;
             return Ok(());
         }
         if self.join(plan, edge) {

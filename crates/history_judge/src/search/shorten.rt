@@ -4,13 +4,16 @@ use super::super::access::Access;
 use super::super::refutation::{Chain, Contradiction, Link, Step, is_refuted};
 use super::super::writers::Tables;
 use super::contradicted;
-use super::lists::{at, put};
+use super::lists::at;
 use super::sources::Sources;
-use address_map::{Op, WordAddr};
+use address_map::WordAddr;
 use std::alloc::{AllocError, Global};
 
 /// Contradictions of more accesses stay as they are.
-const MOST: usize = 200;
+const MOST: usize = 1000;
+
+/// How often accesses are dropped at most, some at a time.
+const TRIES: usize = 4 * MOST;
 
 /// Returns a contradiction of as few of its accesses as still contradict one another.
 pub fn shortened(
@@ -24,20 +27,70 @@ pub fn shortened(
         return Ok(reason);
     }
     let mut shortest = None;
-    let mut dropped = 0;
-    for _ in 0..MOST {
-        if dropped >= places.len() {
-            break;
+    let mut dropped = Part {
+        first: 0,
+        count: places.len().div_ceil(2),
+    };
+    for _ in 0..TRIES {
+        if dropped.first >= places.len() {
+            if dropped.count <= 1 {
+                break;
+            }
+            dropped = dropped.smaller();
         }
         match without(alloc, initial, history, &places, dropped)? {
             Some(shorter) => {
                 places = places_of(alloc, &shorter)?;
                 shortest = Some(shorter);
             }
-            None => dropped = dropped.saturating_add(1),
+            None => dropped = dropped.next(),
         }
     }
     checked(alloc, initial, history, reason, shortest)
+}
+
+/// Some accesses one after another, by their numbers.
+#[derive(Clone, Copy)]
+struct Part {
+    first: usize,
+    count: usize,
+}
+
+impl Part {
+    fn has(self, number: usize) -> bool {
+        number >= self.first && number - self.first < self.count
+    }
+
+    fn next(self) -> Self {
+        Part {
+            first: self.first.saturating_add(self.count),
+            ..self
+        }
+    }
+
+    // The first part of half as many.
+    fn smaller(self) -> Self {
+        Part {
+            first: 0,
+            count: self.count.div_ceil(2),
+        }
+    }
+}
+
+/// Returns the contradiction that names fewer accesses.
+pub fn shorter(
+    alloc: Global,
+    one: Option<Contradiction>,
+    other: Contradiction,
+) -> Result<Contradiction, AllocError> {
+    let Some(one) = one else {
+        return Ok(other);
+    };
+    if places_of(alloc, &one)?.len() <= places_of(alloc, &other)?.len() {
+        Ok(one)
+    } else {
+        Ok(other)
+    }
 }
 
 // The shorter contradiction, where it is one of the whole history too.
@@ -88,82 +141,41 @@ const fn place_of(step: Step) -> usize {
     }
 }
 
-// A contradiction of these accesses but one.
+// A contradiction of these accesses but some.
 fn without(
     alloc: Global,
     initial: &[(WordAddr, u64)],
     history: &[Access],
     places: &[usize],
-    dropped: usize,
+    dropped: Part,
 ) -> Result<Option<Contradiction>, AllocError> {
     let mut kept = Vec::new(alloc);
     let mut few = Vec::new(alloc);
     for (number, place) in places.iter().enumerate() {
         if let Some(access) = history.get(*place) {
-            if number != dropped {
+            if !dropped.has(number) {
                 kept.push(*place)?;
                 few.push(*access)?;
             }
         }
     }
-    match circle_of(alloc, initial, &mut few)? {
+    match circle_of(alloc, initial, &few)? {
         Some(chains) => Ok(Some(Contradiction::Circle(among(alloc, &kept, &chains)?))),
         None => Ok(None),
     }
 }
 
-// A circle of these accesses. One that found what none of them left is taken as a store.
+// A circle of these accesses. Of one that found what none of them left it isn't asked where that came from.
 fn circle_of(
     alloc: Global,
     initial: &[(WordAddr, u64)],
-    few: &mut [Access],
-) -> Result<Option<Vec<Chain>>, AllocError> {
-    for _ in 0..MOST {
-        let sources = Sources::of(alloc, initial, few, &Tables::of(alloc, few)?)?;
-        match sources.unwritten {
-            None => return circle_in(alloc, few, &sources),
-            Some(place) => {
-                if !take_as_store(few, place) {
-                    return Ok(None);
-                }
-            }
-        }
-    }
-    Ok(None)
-}
-
-// .. each of which found what one of them left.
-fn circle_in(
-    alloc: Global,
     few: &[Access],
-    sources: &Sources,
 ) -> Result<Option<Vec<Chain>>, AllocError> {
-    Ok(match contradicted(alloc, few, sources)? {
+    let sources = Sources::of(alloc, initial, few, &Tables::of(alloc, few)?)?;
+    Ok(match contradicted(alloc, few, &sources)? {
         Some(Contradiction::Circle(chains)) => Some(chains),
         Some(Contradiction::Unwritten(_place)) => None,
         None => None,
-    })
-}
-
-// Whether the access changed the word. Then it is taken as a store.
-fn take_as_store(few: &mut [Access], place: usize) -> bool {
-    let Some(access) = few.get(place).copied() else {
-        return false;
-    };
-    let Some(store) = as_store(access) else {
-        return false;
-    };
-    put(few, place, store);
-    true
-}
-
-// A store of what the access left, if it changed the word.
-fn as_store(access: Access) -> Option<Access> {
-    let value = access.left()?;
-    Some(Access {
-        op: Op::Store(value),
-        reply: 0,
-        ..access
     })
 }
 

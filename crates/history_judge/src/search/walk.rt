@@ -169,7 +169,7 @@ impl Walk {
     }
 }
 
-/// Returns the steps around clusters that come before each other.
+/// Returns the steps around clusters that come before each other, from the first cluster's earlier value on.
 pub fn around<'a>(
     alloc: Global,
     history: &'a [Access],
@@ -185,23 +185,22 @@ pub fn around<'a>(
     let (Some(begin), Some(end)) = (passages.first().copied(), passages.last().copied()) else {
         return Walk::starting(alloc, 0).ended(alloc);
     };
-    let origin = map.writer(begin.first);
-    let target = map.writer(end.last);
-    let mut walk = Walk::starting(alloc, origin);
+    let (origin, target) = (map.writer(begin.first), map.writer(end.last));
+    let is_earlier = map.value(target) < map.value(origin);
+    let mut walk = Walk::starting(alloc, if is_earlier { target } else { origin });
+    walk.go_on(&map, origin)?;
     walk.found_by(begin.first)?;
     walk.next(begin.last, begin.why)?;
     for passage in passages.iter().skip(1) {
         walk.cross(&map, *passage)?;
-        if *passage == end && map.value(target) >= map.value(origin) {
-            walk.go_up(&map, target)?;
+        if *passage == end {
+            if !is_earlier {
+                walk.go_up(&map, target)?;
+            }
             walk.raise(end.last)?;
         }
         walk.found_by(passage.first)?;
         walk.next(passage.last, passage.why)?;
-    }
-    if walk.first != walk.last {
-        walk.lower(target)?;
-        walk.go_on(&map, origin)?;
     }
     walk.ended(alloc)
 }

@@ -1,0 +1,6 @@
+mod CacheRows
+mod Cells
+mod EachEffect
+mod Joined
+mod SeenEntries
+mod Steps

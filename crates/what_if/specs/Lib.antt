@@ -1,0 +1,9 @@
+pub mod Channels
+pub mod Copy
+pub mod Judge
+pub mod Line
+pub mod Meets
+pub mod Rows
+pub mod Run
+pub mod Search
+pub mod Step

@@ -1,0 +1,48 @@
+//! What is told of a step besides its row: whether the row is ours, and what a write does that has joined.
+
+use address_map::Block;
+use cache_table::{CopyState, Row};
+use changed_tables::Tables;
+use directory_table::{DirEntry, DirEvent, DirRow, dir_row};
+use protocol_rows::{CacheCase, cache_rule};
+use what_if::{Line, Met};
+
+/// Whether our table has another row at the cell.
+pub(crate) fn changed(tables: &Tables, line: &Line, met: &Met) -> bool {
+    match met {
+        Met::Cache {
+            state,
+            case,
+            row,
+            ..
+        } => *row != cache_rule(*state, *case),
+        Met::Directory { event, row } => *row != our_row(tables.exclusive, line, *event),
+        Met::Joins(_) => false,
+    }
+}
+
+fn our_row(exclusive: bool, line: &Line, event: DirEvent) -> DirRow {
+    let entry = DirEntry {
+        home: Block::zero(),
+        sharers: line.sharers,
+        owner: line.owner,
+        state: line.state,
+    };
+    dir_row(exclusive, &entry, event)
+}
+
+/// The row of a write that has joined a load's miss and goes on with the load's data, and whether our table has another.
+pub(crate) fn joined_row(tables: &Tables, line: &Line, met: &Met) -> Option<(Row, bool)> {
+    match met {
+        Met::Cache {
+            core,
+            state: CopyState::IS_D,
+            case: CacheCase::Data(_),
+            row: Row::Go(CopyState::S, _),
+        } if line.side(*core).joined => {
+            let row = tables.row(CopyState::S, CacheCase::Write);
+            Some((row, row != cache_rule(CopyState::S, CacheCase::Write)))
+        }
+        _ => None,
+    }
+}

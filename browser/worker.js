@@ -25,7 +25,7 @@ function ran(words, text) {
 
 // Runs it as `ran` does, and tells how far it has got, which the program writes to standard error: `500 of 2000 rounds`.
 const DONE = /^(\d+ of \d+ \w+)\r/;
-function watched(words, text, tell) {
+function watched(words, text, files, tell) {
     const out = [];
     let err = '';
     const write = (file, piece) => {
@@ -40,7 +40,8 @@ function watched(words, text, tell) {
         }
     };
     const all = ['lockup', ...words].map(it => encoder.encode(it));
-    const { status } = machine.run(all, encoder.encode(text), new Map(), write, true);
+    const named = new Map(Object.entries(files).map(([name, it]) => [name, encoder.encode(it)]));
+    const { status } = machine.run(all, encoder.encode(text), named, write, true);
     return { status, out: textOf(out), err };
 }
 
@@ -79,7 +80,7 @@ function played(text) {
     return { status, err: textOf(err), fault, same, steps: steps.map(it => it.slice(0, -1)) };
 }
 
-onmessage = ({ data: { id, module, words, text } }) => {
+onmessage = ({ data: { id, module, words, text, files } }) => {
     if (module) {
         machine = new Machine(module);
         return;
@@ -87,7 +88,7 @@ onmessage = ({ data: { id, module, words, text } }) => {
     const began = performance.now();
     let answer;
     try {
-        answer = words ? watched(words, text, done => postMessage({ id, done })) : played(text);
+        answer = words ? watched(words, text, files, done => postMessage({ id, done })) : played(text);
     } catch (stopped) {
         known = new Uint8Array();
         answer = { status: -1, out: '', err: 'lockup: ' + stopped.message + '\n', fault: stopped.message, same: 0, steps: [] };

@@ -15,7 +15,7 @@ import subprocess
 import kit
 
 PARTS = f"{kit.ROOT}/browser"
-CODE = ["parts", "engine", "edits", "link", "script", "run", "moves", "keys", "goals", "settings", "litmus", "plot", "programs", "panels",
+CODE = ["parts", "engine", "edits", "link", "script", "run", "moves", "keys", "goals", "settings", "litmus", "plot", "programs", "panels", "what_if",
         "main"]
 # the kinds of texts: where the examples of each are, and what reads one
 TEXTS = {"scripts": "examples", "litmus": "examples/litmus", "programs": "examples/programs", "exercises": "examples/exercises"}

@@ -54,12 +54,12 @@ class Engine {
     }
 
     // Runs the program with these words and this text as its input, or plays the text where there are no words. `watch` is
-    // told how far a long run has got.
-    ask(text, words = null, watch = () => {}) {
+    // told how far a long run has got. `files` has the texts of further files, by their names.
+    ask(text, words = null, watch = () => {}, files = {}) {
         const id = this.count++;
         return new Promise(answer => {
             this.waiting.set(id, { answer, watch });
-            this.worker.postMessage({ id, text, words });
+            this.worker.postMessage({ id, text, words, files });
         });
     }
 
@@ -81,13 +81,13 @@ class LongWork {
         button.onclick = () => this.stop();
         button.hidden = true;
     }
-    async ask(text, words) {
+    async ask(text, words, files) {
         this.stop();
         const engine = this.begin();
         this.engine = engine;
         this.button.hidden = false;
         this.says.textContent = 'at work ..';
-        const answer = await engine.ask(text, words, done => { this.says.textContent = done; });
+        const answer = await engine.ask(text, words, done => { this.says.textContent = done; }, files);
         if (this.engine === engine) this.end('');
         return answer;
     }

@@ -204,6 +204,7 @@ async function begin() {
     programs = new Programs(beginEngine, open);
     exercises = new Exercises(engine, open);
     tables = new Tables(engine);
+    new WhatIf(beginEngine, tables);
     fillMenu();
     for (const it of document.querySelectorAll('[data-to]')) it.onclick = () => tabsOf(it.dataset.to);
     at('stop').onclick = () => engine.restart();

@@ -7,7 +7,7 @@ what comes of it with what the program under test says of the same script.
 - each thing that can be done: accesses, deliveries in the list and in the picture, evictions, replies, pumps, undo and redo, a
   step back and another way from there, by the mouse and by keys, on the page and in its picture; settings, the menu, walks and
   threads of litmus tests, programs with their rows, a plot of these and the file that is saved, exercises, tables with the row
-  that was taken, links, files, and a page that opens with a script;
+  that was taken and with cells that are changed, links, files, and a page that opens with a script;
 - what it says one may try leads to an upgrade race;
 - long work says how far it has got, is stopped by a button, and the page goes on meanwhile;
 - an invalid line has its error beside it, with the hint that the program gives;
@@ -664,6 +664,54 @@ def test_the_row_that_was_taken(browser: str) -> None:
         it.wait(f"JSON.stringify({marked}).includes('I (exclusive on)')")
 
 
+def change(it: Page, table: str, line: str, column: str, cell: str) -> None:
+    """Presses a cell of a table, and writes another text there."""
+    it.get(f"""(() => {{
+        const tables = [...document.querySelectorAll('#both table')].map(it => [...it.rows]);
+        const [heading, ...rows] = tables.find(([heading]) => heading.cells[0].textContent === {json.dumps(table)}
+            && [...heading.cells].some(it => it.textContent === {json.dumps(column)}));
+        const place = [...heading.cells].findIndex(it => it.textContent === {json.dumps(column)});
+        document.querySelectorAll('#pressed').forEach(it => it.removeAttribute('id'));
+        rows.find(it => it.cells[0].textContent === {json.dumps(line)}).cells[place].id = 'pressed'; }})()""")
+    it.click("#pressed")
+    it.get(f"document.querySelector('#pressed input').value = {json.dumps(cell)}")
+    it.key("Enter")
+    same("cell", cell, it.get("at('pressed').textContent"))
+
+
+@seconds(10)
+@in_each_browser
+def test_what_changed_cells_break(browser: str) -> None:
+    """The steps are those of the program under test, the picture has a dot for each and an arrow for each message; what isn't a
+    cell is told, and with our tables nothing breaks."""
+    cache, directory = "| Cache | Inv |\n| S | Inv-Ack; S |\n", "| Directory | PutM of r |\n| M, owner o | Put-Ack; block home; M, owner o |\n"
+    with page(browser) as it, tempfile.TemporaryDirectory() as room:
+        it.click('[data-to="tables"]')
+        it.wait("document.querySelectorAll('#both table').length")
+        change(it, "Cache", "S", "Inv", "Inv-Ack; S")
+        change(it, "Directory", "M, owner o", "PutM of r", "Put-Ack; block home; M, owner o")
+        it.click("#what-if")
+        it.wait("!!document.querySelector('#broken svg')")
+        files = [write(f"{room}/cache", cache), write(f"{room}/directory", directory)]
+        wanted = json.loads(lockup("what-if", "--json", "--cache", str(files[0]), "--directory", str(files[1])).out)
+        same("promise", f"Broken: {wanted['broken']}", it.get("document.querySelector('#broken p').textContent"))
+        shown = it.get("[...document.querySelectorAll('#broken tr')].slice(1).map(row => [...row.cells].map(it => it.textContent))")
+        same("steps", [[str(place), step["actor"] if step["actor"] == "directory" else f"core {step['actor']}", f"{step['state']}, {step['event']}",
+                        step["row"]] for place, step in enumerate(wanted["steps"], 1)], shown)
+        same("dots", len(wanted["steps"]), it.get("document.querySelectorAll('#broken circle').length"))
+        same("changed", [step["changed"] for step in wanted["steps"]],
+             it.get("[...document.querySelectorAll('#broken circle')].map(it => it.classList.contains('changed'))"))
+        taken = sum(bool(re.match(r"(Get|Put|Fwd|Inv|Data)", step["event"])) for step in wanted["steps"])
+        same("messages that are taken", taken, it.get("document.querySelectorAll('#broken .sent').length"))
+        change(it, "Cache", "S", "Inv", "gone")
+        it.click("#what-if")
+        it.wait("at('broken').textContent.startsWith('lockup: cache: line 3, cell 2: ')")
+        it.click("#ours")
+        it.wait("!document.querySelector('#both .changed')")
+        it.click("#what-if")
+        it.wait("at('broken').textContent.startsWith('Nothing broke in ')")
+
+
 @seconds(5)
 @in_each_browser
 def test_files_and_links(browser: str) -> None:
@@ -865,7 +913,7 @@ def test_nothing_is_cut(_: str, size: str, browser: str) -> None:
     with page(browser, width, height) as it:
         for command in ('[data-issue="0 load"]', "#next", '[data-issue="1 store"]'):
             it.do(command)
-        for tab in ("litmus", "programs", "exercises", "play"):
+        for tab in ("litmus", "programs", "exercises", "tables", "play"):
             it.click(f'[data-to="{tab}"]')
             wide, tall, cut = it.get("""[document.documentElement.scrollWidth, document.documentElement.scrollHeight,
                 [...document.querySelectorAll('button, select, input, label')].filter(it => it.offsetParent).filter(it => {

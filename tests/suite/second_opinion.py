@@ -357,8 +357,8 @@ def test_the_tool_says_what_it_does() -> None:
 
 
 def test_what_export_refuses() -> None:
-    wanted = "error: export murphi needs --cores <N>, and export smt takes neither --cores nor --closed\n"
+    wanted = "error: export murphi needs --cores <N>, and export smt takes --exclusive alone\n"
     for words in (["murphi"], ["murphi", "--closed"], ["smt", "--cores", "2"], ["smt", "--closed"],
-                  ["smt", "--exclusive", "--closed"]):
+                  ["smt", "--exclusive", "--closed"], ["smt", "--cache", "-"], ["smt", "--directory", "-"]):
         ran = lockup("export", *words)
         same(" ".join(words), (2, "", wanted), (ran.status, ran.out, ran.err.splitlines(keepends=True)[0]))

@@ -4,6 +4,7 @@ ghost use Rattle.litmus_command_line.specs.CommandLine.{number_of};
 ghost use Rattle.protocol_murphi.specs.Model.{model_of};
 ghost use Rattle.protocol_smt.specs.Queries.{queries_of};
 
+use changed_tables::Tables;
 use litmus_command_line::ModelCores;
 use litmus_script::TextWriter;
 use litmus_text::TextFault;
@@ -11,24 +12,24 @@ use protocol_murphi::write_model;
 use protocol_smt::write_queries;
 use std::io::Write;
 
-/// Prints a line's protocol as a model of so many cores, with the exclusive state or without it, and with what can be
-/// completed once no core asks any more, or without it. Returns the exit status.
+/// Prints the protocol of a line under these tables as a model of so many cores, and with what can be completed once no
+/// core asks any more, or without it. Returns the exit status.
 pub fn run_export<W: Write>(
+    tables: &Tables,
     cores: ModelCores,
-    exclusive: bool,
     closed: bool,
     out: &mut W,
 ) -> Result<u8, TextFault>
     ensures status { IfOk result (λ status. status ≡ 0) }
     ensures fault { IfErr result (λ fault. fault ≡ TextFault.CannotWrite) }
     ensures printed { OnOk result
-        (Appends (W.contents out.old) (W.contents out.new) (model_of exclusive closed (number_of cores))) }
+        (Appends (W.contents out.old) (W.contents out.new) (model_of tables.now closed (number_of cores))) }
 {
-    print_model(exclusive, closed, cores.number(), out)
+    print_model(tables, closed, cores.number(), out)
 }
 
 fn print_model<W: Write>(
-    exclusive: bool,
+    tables: &Tables,
     closed: bool,
     cores: u8,
     out: &mut W,
@@ -37,10 +38,10 @@ fn print_model<W: Write>(
     ensures status { IfOk result (λ status. status ≡ 0) }
     ensures fault { IfErr result (λ fault. fault ≡ TextFault.CannotWrite) }
     ensures printed { OnOk result (Appends (W.contents out.old) (W.contents out.new)
-        (model_of exclusive closed cores)) }
+        (model_of tables.now closed cores)) }
 {
     let mut answers = TextWriter { out };
-    match write_model(exclusive, closed, cores, &mut answers) {
+    match write_model(tables, closed, cores, &mut answers) {
         Ok(()) => Ok(0),
         Err(_) => Err(TextFault::CannotWrite),
     }

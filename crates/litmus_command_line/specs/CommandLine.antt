@@ -23,6 +23,7 @@ use Rattle.litmus_command_line.specs.declared.form.ScheduleForm.TheVariants as s
 use Rattle.litmus_command_line.specs.declared.form.ScriptForm.{ScriptForm}
 use Rattle.litmus_command_line.specs.declared.form.ScriptForm.TheVariants as script_forms
 use Rattle.litmus_command_line.specs.declared.table.Table.{Table}
+use Rattle.litmus_command_line.specs.declared.table.TableFiles.{TableFiles}
 use Rattle.litmus_command_line.specs.declared.table.Table.TheVariants.{Cache, Directory}
 
 -- the command with these arguments and options too
@@ -171,6 +172,18 @@ table_app names =
     with_rules (new_app (codes "table"))
     (table_rule names ∷ flag_rule (codes "exclusive") ∷ flag_rule (codes "json") ∷ [])
 
+-- an option that takes a number from 1 to 64, which has this value where it is given none
+abbrev pub few_rule_or : Text → Text → Rule
+few_rule_or name value = record (few_rule name) { defaults = value ∷ [] }
+
+-- the subcommand that plays a line under changed tables
+abbrev pub what_if_app : App
+what_if_app =
+    with_rules (new_app (codes "what-if"))
+    (text_rule (codes "cache") ∷ text_rule (codes "directory") ∷ few_rule_or (codes "cores") (codes "3")
+    ∷ number_rule_or (codes "rounds") (codes "10000") ∷ number_rule_or (codes "seed") (codes "1")
+    ∷ flag_rule (codes "exclusive") ∷ flag_rule (codes "json") ∷ [])
+
 -- the argument that is one of these forms, which has to be there, and the option that is one of these numbers
 abbrev pub form_rule : Bor (List (Bor Text)) → Rule
 form_rule names = record (new_rule (codes "FORM")) { required = true; parser = Some (value_parsers.Names names) }
@@ -186,7 +199,8 @@ cores_rule names = record (new_rule (codes "cores")) {
 abbrev pub export_app : Bor (List (Bor Text)) → Bor (List (Bor Text)) → App
 export_app forms numbers =
     with_rules (new_app (codes "export"))
-    (form_rule forms ∷ cores_rule numbers ∷ flag_rule (codes "exclusive") ∷ flag_rule (codes "closed") ∷ [])
+    (form_rule forms ∷ cores_rule numbers ∷ flag_rule (codes "exclusive") ∷ flag_rule (codes "closed")
+    ∷ text_rule (codes "cache") ∷ text_rule (codes "directory") ∷ [])
 
 -- the program itself, which asks for a subcommand
 abbrev pub top_app : App
@@ -225,6 +239,7 @@ table_program names =
     (with_subcommand
     (with_subcommand
     (with_subcommand
+    (with_subcommand
     (with_subcommand (with_subcommand (with_subcommand top_app script_app.top) coverage_app.top) try_app.top)
     chart_app.top)
     page_app.top)
@@ -235,6 +250,7 @@ table_program names =
     test_app.top)
     check_app.top)
     judge_app.top)
+    what_if_app.top)
     (table_app names).top
 
 abbrev pub lockup_app : Bor (List (Bor Text)) → Bor (List (Bor Text)) → Bor (List (Bor Text)) → App
@@ -352,6 +368,16 @@ abbrev pub is_swept : List Row → Bool
 is_swept rows =
     is_given (codes "csv") rows || is_some (first_of (codes "set") rows) || is_some (first_of (codes "seeds") rows)
 
+-- these are the files of tables that were named
+abbrev pub AreTableFiles : List Row → TableFiles → Type 0
+AreTableFiles rows files =
+    (option_map (λ file. file.now) files.cache ≡ first_of (codes "cache") rows)
+    × (option_map (λ file. file.now) files.directory ≡ first_of (codes "directory") rows)
+
+-- whether any was
+abbrev pub names_tables : List Row → Bool
+names_tables rows = is_some (first_of (codes "cache") rows) || is_some (first_of (codes "directory") rows)
+
 -- the subcommand of this name, with these values, is what the line holds
 abbrev pub IsLine : Text → List Row → CommandLine → Type 0
 IsLine name rows (command_lines.Script file form) =
@@ -400,14 +426,20 @@ IsLine name rows (command_lines.Judge file limit line witness json explain) =
 IsLine name rows (command_lines.Table table exclusive json) =
     (name ≡ codes "table") × (first_of (codes "TABLE") rows ≡ Some (word_of table))
     × (exclusive ≡ is_given (codes "exclusive") rows) × (json ≡ is_given (codes "json") rows)
-IsLine name rows (command_lines.Export cores exclusive closed) =
+IsLine name rows (command_lines.WhatIf tables cores rounds seed exclusive json) =
+    (name ≡ codes "what-if") × AreTableFiles rows tables
+    × IsNumberOf (codes "cores") rows cores × IsNumberOf (codes "rounds") rows rounds
+    × IsNumberOf (codes "seed") rows seed
+    × (exclusive ≡ is_given (codes "exclusive") rows) × (json ≡ is_given (codes "json") rows)
+IsLine name rows (command_lines.Export tables cores exclusive closed) =
     (name ≡ codes "export") × (first_of (codes "FORM") rows ≡ Some (word_of_form Murphi))
-    × (first_of (codes "cores") rows ≡ Some (word_of_number cores))
+    × AreTableFiles rows tables × (first_of (codes "cores") rows ≡ Some (word_of_number cores))
     × (exclusive ≡ is_given (codes "exclusive") rows) × (closed ≡ is_given (codes "closed") rows)
 IsLine name rows (command_lines.Queries exclusive) =
     (name ≡ codes "export") × (first_of (codes "FORM") rows ≡ Some (word_of_form Smt))
     × (exclusive ≡ is_given (codes "exclusive") rows)
     × (is_some (first_of (codes "cores") rows) ≡ false) × (is_given (codes "closed") rows ≡ false)
+    × (names_tables rows ≡ false)
 
 -- the subcommand that was read is what the line holds
 abbrev pub IsAsked : Option (Text × List Row) → CommandLine → Type 0

@@ -1,6 +1,7 @@
 ghost use Rattle.std.specs.Prelude.{◌≡◌, ◌<◌, map, IfOk, IfSome, Some, string_bytes, codes, false, is_some};
 ghost use Rattle.litmus_command_line.specs.CommandLine.{IsAsked, IsFormOf, IsLine, IsRead, IsScheduleFormOf, is_given, word_of, IsNumberOf};
 ghost use Rattle.litmus_command_line.specs.CommandLine.{IsNumberIfGiven, word_of_form, word_of_number, AreTexts, is_swept, texts_in};
+ghost use Rattle.litmus_command_line.specs.CommandLine.{AreTableFiles, names_tables};
 ghost use Rattle.litmus_command_line.specs.CommandLine.{texts_of};
 ghost use Rattle.std.specs.Option.{option_map};
 ghost use Rattle.clap.specs.Words.{found_of, rows_of, first_of, subcommand_rows_of};
@@ -8,7 +9,7 @@ ghost use Rattle.clap.specs.Words.{found_of, rows_of, first_of, subcommand_rows_
 use super::export::{ModelCores, ModelForm};
 use super::form::{ScheduleForm, ScriptForm};
 use super::subcommands::lockup;
-use super::table::Table;
+use super::table::{Table, TableFiles};
 use clap::error::ErrorKind;
 use clap::{ArgMatches, Error};
 use std::alloc::{AllocError, Global};
@@ -122,9 +123,21 @@ pub enum CommandLine<'a> {
         exclusive: bool,
         json: bool,
     },
-    /// Print a line's protocol as a model of so many cores, with the exclusive state or without it, and what can be
-    /// completed once no core asks any more, or not.
+    /// Play one line of memory on so many cores under the tables in these files, with the exclusive state or without it:
+    /// so many rounds of random steps, of which the first has this seed. With `json`, print what broke as a value of
+    /// JSON.
+    WhatIf {
+        tables: TableFiles<'a>,
+        cores: u64,
+        rounds: u64,
+        seed: u64,
+        exclusive: bool,
+        json: bool,
+    },
+    /// Print a line's protocol, or that of the tables in these files, as a model of so many cores, with the exclusive
+    /// state or without it, and what can be completed once no core asks any more, or not.
     Export {
+        tables: TableFiles<'a>,
         cores: ModelCores,
         exclusive: bool,
         closed: bool,
@@ -207,7 +220,7 @@ fn texts_of<'a>(
 fn unfit(alloc: Global) -> Result<Error, AllocError> {
     lockup(alloc)?.error(
         ErrorKind::ArgumentConflict,
-        "export murphi needs --cores <N>, and export smt takes neither --cores nor --closed",
+        "export murphi needs --cores <N>, and export smt takes --exclusive alone",
     )
 }
 
@@ -229,6 +242,7 @@ fn asked<'a>(matches: &ArgMatches<'a>) -> Option<CommandLine<'a>>
         "check" => check_line(given),
         "judge" => judge_line(given),
         "table" => table_line(given),
+        "what-if" => what_if_line(given),
         "export" => export_line(given),
         _ => None,
     }
@@ -456,6 +470,33 @@ fn table_line<'a>(given: &ArgMatches<'a>) -> Option<CommandLine<'a>>
     })
 }
 
+fn what_if_line<'a>(given: &ArgMatches<'a>) -> Option<CommandLine<'a>>
+    ensures { IfSome result (IsLine (codes "what-if") (rows_of (found_of given.now))) }
+{
+    let tables = table_files_of(given);
+    let cores = number_of(given, "cores")?;
+    let rounds = number_of(given, "rounds")?;
+    let seed = number_of(given, "seed")?;
+    let exclusive = is_given(given, "exclusive");
+    let json = is_given(given, "json");
+    Some(CommandLine::WhatIf {
+        tables,
+        cores,
+        rounds,
+        seed,
+        exclusive,
+        json,
+    })
+}
+
+fn table_files_of<'a>(given: &ArgMatches<'a>) -> TableFiles<'a>
+    ensures { AreTableFiles (rows_of (found_of given.now)) result }
+{
+    let cache = text_if_given(given, "cache");
+    let directory = text_if_given(given, "directory");
+    TableFiles { cache, directory }
+}
+
 fn export_line<'a>(given: &ArgMatches<'a>) -> Option<CommandLine<'a>>
     ensures { IfSome result (IsLine (codes "export") (rows_of (found_of given.now))) }
 {
@@ -469,10 +510,12 @@ fn model_line<'a>(given: &ArgMatches<'a>) -> Option<CommandLine<'a>>
     requires { first_of (codes "FORM") (rows_of (found_of given.now)) ≡ Some (codes "murphi") }
     ensures { IfSome result (IsLine (codes "export") (rows_of (found_of given.now))) }
 {
+    let tables = table_files_of(given);
     let cores = model_cores_of(given)?;
     let exclusive = is_given(given, "exclusive");
     let closed = is_given(given, "closed");
     Some(CommandLine::Export {
+        tables,
         cores,
         exclusive,
         closed,
@@ -484,7 +527,7 @@ fn queries_line<'a>(given: &ArgMatches<'a>) -> Option<CommandLine<'a>>
     ensures { IfSome result (IsLine (codes "export") (rows_of (found_of given.now))) }
 {
     let exclusive = is_given(given, "exclusive");
-    if is_given(given, "closed") || has_text(given, "cores") {
+    if is_given(given, "closed") || has_text(given, "cores") || names_tables(given) {
         return None;
     }
     Some(CommandLine::Queries { exclusive })
@@ -571,6 +614,12 @@ fn is_swept(given: &ArgMatches<'_>) -> bool
     ensures { result ≡ is_swept (rows_of (found_of given.now)) }
 {
     is_given(given, "csv") || has_text(given, "set") || has_text(given, "seeds")
+}
+
+fn names_tables(given: &ArgMatches<'_>) -> bool
+    ensures { result ≡ names_tables (rows_of (found_of given.now)) }
+{
+    has_text(given, "cache") || has_text(given, "directory")
 }
 
 fn has_text(given: &ArgMatches<'_>, name: &str) -> bool

@@ -8,7 +8,7 @@
 pub use command_line::{CommandLine, read_files, read_line, read_settings};
 pub use export::ModelCores;
 pub use form::{ScheduleForm, ScriptForm};
-pub use table::Table;
+pub use table::{Table, TableFiles};
 
 mod command_line;
 mod export;

@@ -18,6 +18,7 @@ ghost use Rattle.litmus_command_line.specs.CommandLine.{
   coverage_app,
   few_or_none_rule,
   few_rule,
+  few_rule_or,
   file_rule,
   files_rule,
   flag_rule,
@@ -41,6 +42,7 @@ ghost use Rattle.litmus_command_line.specs.CommandLine.{
   top_app,
   try_app,
   walk_app,
+  what_if_app,
 };
 
 use clap::builder::ValueParser;
@@ -77,6 +79,7 @@ pub(crate) fn lockup<'a>(alloc: Global) -> Result<Command<'a>, AllocError>
     let program = with(program, test(alloc));
     let program = with(program, check(alloc));
     let program = with(program, judge(alloc));
+    let program = with(program, what_if(alloc));
     let program = with(program, table(alloc));
     with(program, export(alloc))
 }
@@ -650,6 +653,63 @@ fn judge<'a>(alloc: Global) -> Result<Command<'a>, AllocError>
     and(command, flag(alloc, "explain", EXPLAIN_ERROR))
 }
 
+fn what_if<'a>(alloc: Global) -> Result<Command<'a>, AllocError>
+    ensures { IfOk result (Reads what_if_app) }
+{
+    let command = begin(
+        alloc,
+        "what-if",
+        "Plays one line of memory under changed tables of the protocol, and shows what breaks",
+        help::WHAT_IF,
+    );
+    let command = and(command, cache_file(alloc));
+    let command = and(command, directory_file(alloc));
+    let command = and(
+        command,
+        few_or(alloc, "cores", "How many cores there are", "3"),
+    );
+    let command = and(
+        command,
+        number_or(alloc, "rounds", "How many rounds of random steps", "10000"),
+    );
+    let command = and(
+        command,
+        number_or(alloc, "seed", "The seed of the first round", "1"),
+    );
+    let command = and(
+        command,
+        flag(alloc, "exclusive", "With the exclusive state"),
+    );
+    and(
+        command,
+        flag(alloc, "json", "Print what broke as one value of JSON"),
+    )
+}
+
+/// The option that names the table of a private cache.
+fn cache_file<'a>(alloc: Global) -> Arg<'a>
+    ensures { HasRule (text_rule (codes "cache")) result }
+{
+    text(
+        alloc,
+        "cache",
+        "FILE",
+        "A table of a private cache, as 'lockup table cache' prints it, with changed cells",
+    )
+}
+
+/// .. of a directory.
+fn directory_file<'a>(alloc: Global) -> Arg<'a>
+    ensures { HasRule (text_rule (codes "directory")) result }
+{
+    text(
+        alloc,
+        "directory",
+        "FILE",
+        "A table of a directory, as 'lockup table directory' prints it, with changed cells",
+    )
+}
+
 fn table<'a>(alloc: Global) -> Result<Command<'a>, AllocError>
     ensures { IfOk result IsTable }
 {
@@ -694,14 +754,16 @@ fn export<'a>(alloc: Global) -> Result<Command<'a>, AllocError>
         command,
         flag(alloc, "exclusive", "With the exclusive state"),
     );
-    and(
+    let command = and(
         command,
         flag(
             alloc,
             "closed",
             "Also have each miss completed, once no core asks any more (murphi)",
         ),
-    )
+    );
+    let command = and(command, cache_file(alloc));
+    and(command, directory_file(alloc))
 }
 
 fn form<'a>(alloc: Global) -> Arg<'a>
@@ -788,6 +850,13 @@ fn number_or<'a>(alloc: Global, name: &'a str, help: &'a str, value: &'a str) ->
     ensures { HasRule (number_rule_or name.entry.now value.entry.now) result }
 {
     number(alloc, name, help).default_value(value)
+}
+
+/// .. from 1 to 64.
+fn few_or<'a>(alloc: Global, name: &'a str, help: &'a str, value: &'a str) -> Arg<'a>
+    ensures { HasRule (few_rule_or name.entry.now value.entry.now) result }
+{
+    few(alloc, name, help).default_value(value)
 }
 
 /// An option with a text.

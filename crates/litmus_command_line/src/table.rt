@@ -6,3 +6,10 @@ pub enum Table {
     /// Of a slice's directory.
     Directory,
 }
+
+/// The files of tables that stand in place of ours.
+#[derive(Clone, Copy, Debug, PartialEq, Eq)]
+pub struct TableFiles<'a> {
+    pub cache: Option<&'a str>,
+    pub directory: Option<&'a str>,
+}

@@ -6,19 +6,21 @@
 //! start any.
 #![tactic(auto)]
 
+use changed_tables::Tables;
 use litmus::{
-    CommandLine, Extent, Form, JudgeForm, Limits, OutcomeForm, ScheduleForm, ScriptForm, Seeds,
-    Size, SweepFault, TextKind, coverage_schedule, coverage_walk, hint, line_count, page_schedule,
-    page_walk, read_line, run_beside, run_chart, run_check, run_check_explained, run_check_json,
-    run_coverage, run_explained, run_export, run_json, run_judge, run_litmus_as, run_page,
-    run_programs, run_queries, run_script, run_svg, run_table, run_table_cells, run_test,
-    run_trace, run_walk, run_waves, trace_litmus, trace_schedule, trace_walk, write_schedule,
-    write_walk,
+    CommandLine, Extent, Form, JudgeForm, Limits, ModelCores, OutcomeForm, ScheduleForm,
+    ScriptForm, Seeds, Size, SweepFault, TextKind, coverage_schedule, coverage_walk, hint,
+    line_count, page_schedule, page_walk, read_line, run_beside, run_chart, run_check,
+    run_check_explained, run_check_json, run_coverage, run_explained, run_export, run_json,
+    run_judge, run_litmus_as, run_page, run_programs, run_queries, run_script, run_svg, run_table,
+    run_table_cells, run_test, run_trace, run_walk, run_waves, trace_litmus, trace_schedule,
+    trace_walk, write_schedule, write_walk,
 };
 use litmus_text::TextFault;
 use lockup_front::{
-    Counted, Painted, People, REFUSED, Rows, Shown, add_coverage, answer_lines, complain, head_of,
-    print_rows, print_workload, read, report, show, tell_unforbidden, tell_unused,
+    Counted, Painted, People, Play, REFUSED, Rows, Shown, add_coverage, answer_lines, complain,
+    head_of, print_rows, print_what_breaks, print_workload, read, read_tables, report, show,
+    tell_unforbidden, tell_unused,
 };
 use std::alloc::Global;
 use std::env::VarError;
@@ -76,31 +78,103 @@ where
     R: Env + Files + Input + AllocGlobal + Print + Eprint + Threads + Wait + Sync,
 {
     match read_line(rt.alloc(), words) {
-        Ok(
-            CommandLine::Sweep {
-                file,
-                outstanding,
-                pace,
-                seed,
-                seeds,
-                json,
-            },
-        ) => {
+        Ok(line) => run_line(rt, people, words, line),
+        Err(error) => show(rt, people, &error),
+    }
+}
+
+/// Does what the line asks for, which stands in these words.
+fn run_line<R>(rt: &R, people: People, words: &[String], line: CommandLine<'_>) -> u8
+where
+    R: Env + Files + Input + AllocGlobal + Print + Eprint + Threads + Wait + Sync,
+{
+    match line {
+        CommandLine::Sweep {
+            file,
+            outstanding,
+            pace,
+            seed,
+            seeds,
+            json,
+        } => {
             let limits = Limits { outstanding, pace };
             let rows = Rows { file, limits, json };
             print_rows(rt, people, words, seeds_of(seed, seeds), rows)
         }
-        Ok(
-            CommandLine::Generate {
-                name,
+        CommandLine::Generate {
+            name,
+            cores,
+            size,
+            seed,
+        } => print_workload(rt, people, name, Size { cores, size, seed }),
+        CommandLine::Coverage => add_coverage(rt, people, words),
+        CommandLine::WhatIf { .. } | CommandLine::Export { .. } => {
+            run_under_tables(rt, people, line)
+        }
+        _ => answer(rt, line, people),
+    }
+}
+
+/// Does what the line asks of a line of memory under the tables that it names.
+fn run_under_tables<R>(rt: &R, people: People, line: CommandLine<'_>) -> u8
+where
+    R: Files + Input + AllocGlobal + Print + Eprint,
+{
+    match line {
+        CommandLine::WhatIf {
+            tables,
+            cores,
+            rounds,
+            seed,
+            exclusive,
+            json,
+        } => {
+            let play = Play {
                 cores,
-                size,
+                rounds,
                 seed,
-            },
-        ) => print_workload(rt, people, name, Size { cores, size, seed }),
-        Ok(CommandLine::Coverage) => add_coverage(rt, people, words),
-        Ok(line) => answer(rt, line, people),
-        Err(error) => show(rt, people, &error),
+                json,
+            };
+            print_what_breaks(rt, people, tables, exclusive, play)
+        }
+        CommandLine::Export {
+            tables,
+            cores,
+            exclusive,
+            closed,
+        } => match read_tables(rt, people, tables, exclusive) {
+            Ok(tables) => print_model(rt, people, &tables, cores, closed),
+            Err(status) => status,
+        },
+        _ => REFUSED,
+    }
+}
+
+/// Prints the model of a line under these tables. Returns the exit status.
+fn print_model<R>(rt: &R, people: People, tables: &Tables, cores: ModelCores, closed: bool) -> u8
+where
+    R: AllocGlobal + Print + Eprint,
+{
+    match write_model(rt, tables, cores, closed) {
+        Ok(status) => status,
+        Err(fault) => {
+            complain(rt, people, fault);
+            fault.status()
+        }
+    }
+}
+
+fn write_model<R>(rt: &R, tables: &Tables, cores: ModelCores, closed: bool) -> Result<u8, TextFault>
+where
+    R: AllocGlobal + Print,
+{
+    let Ok(mut out) = BufWriter::new(rt.alloc(), io::writer(rt)) else {
+        return Err(TextFault::NoMemory);
+    };
+    let ran = run_export(tables, cores, closed, &mut out);
+    match out.flush() {
+        Ok(()) => ran,
+        Err(_) => Err(TextFault::CannotWrite),
     }
 }
 
@@ -281,6 +355,7 @@ fn file_of<'a>(line: CommandLine<'a>) -> Option<&'a str> {
         CommandLine::Try { file } => file,
         CommandLine::Coverage
         | CommandLine::Generate { .. }
+        | CommandLine::WhatIf { .. }
         | CommandLine::Table { .. }
         | CommandLine::Export { .. }
         | CommandLine::Queries { .. } => None,
@@ -395,10 +470,12 @@ where
                 }
             }
         }
-        // These are printed by `print_rows`, `print_workload` and `add_coverage`.
-        CommandLine::Sweep { .. } | CommandLine::Generate { .. } | CommandLine::Coverage => {
-            Ok(REFUSED)
-        }
+        // These are printed by functions of their own.
+        CommandLine::Sweep { .. }
+        | CommandLine::Generate { .. }
+        | CommandLine::Coverage
+        | CommandLine::WhatIf { .. }
+        | CommandLine::Export { .. } => Ok(REFUSED),
         CommandLine::Check { json: true, .. } => run_check_json(alloc, input, out),
         CommandLine::Check { explain: true, .. } => run_check_explained(alloc, input, out),
         CommandLine::Check { .. } => run_check(alloc, input, out),
@@ -422,11 +499,6 @@ where
             exclusive,
             ..
         } => run_table(table, exclusive, out),
-        CommandLine::Export {
-            cores,
-            exclusive,
-            closed,
-        } => run_export(cores, exclusive, closed, out),
         CommandLine::Queries { exclusive } => run_queries(exclusive, out),
     }
 }

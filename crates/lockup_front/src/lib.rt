@@ -2,7 +2,8 @@
 //!
 //! - [`People`] are who is at the other end: [`complain`], [`report`] and [`show`] tell them what is wrong, [`Shown`] how
 //!   far a long run is, and [`Painted`] colors their answers. [`read`] reads a file, or standard input.
-//! - [`print_rows`], [`print_workload`], [`add_coverage`] and [`answer_lines`] each do what a subcommand asks for.
+//! - [`print_rows`], [`print_workload`], [`add_coverage`], [`answer_lines`] and [`print_what_breaks`] each do what a
+//!   subcommand asks for, and [`read_tables`] reads tables with changed cells.
 //! - [`tell_unused`] and [`tell_unforbidden`] say of a text that was run what its output doesn't.
 #![tactic(auto)]
 
@@ -16,6 +17,7 @@ pub use prompt::answer_lines;
 pub use rows::{Rows, print_rows};
 pub use unforbidden::tell_unforbidden;
 pub use unused::tell_unused;
+pub use what_breaks::{Play, print_what_breaks, read_tables};
 pub use workload::print_workload;
 
 mod coverage;
@@ -28,4 +30,5 @@ mod prompt;
 mod rows;
 mod unforbidden;
 mod unused;
+mod what_breaks;
 mod workload;

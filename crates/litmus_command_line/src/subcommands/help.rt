@@ -226,6 +226,25 @@ Documents: docs/TEXTS.md (judging without an order)
 
 Example: lockup judge examples/incoherent_history.txt";
 
+/// What stands below the options of `what-if`.
+pub const WHAT_IF: &str = "\
+Print a table, change a cell, and see which promise breaks:
+
+  lockup table cache > mine.txt
+  (in an editor: at S and Inv, 'Inv-Ack; S' in place of 'Inv-Ack; I')
+  lockup what-if --cache mine.txt
+
+Each step of a round is an access, an eviction or a delivery, drawn from those that can happen; at the
+end messages are delivered until nothing moves. At each step it is judged whether there is one writer
+or only readers, whether readers have the newest block, whether each message has a row and room, and
+whether something can move while a miss waits. The first round that breaks a promise is shortened and
+shown, with status 1. Where none does, that proves nothing: 'lockup export murphi' with the same
+tables writes a model that Rumur searches whole.
+
+Documents: docs/PROTOCOL.md (the tables, and what changed cells break)
+
+Example: lockup what-if --cache examples/what_if/reader_that_stays.txt";
+
 /// What stands below the options of `export`.
 pub const EXPORT: &str = "\
 murphi: each rule is one row of the tables by which the slices run, and has its cell's name, so a
@@ -235,6 +254,9 @@ counterexample reads like them:
   rumur --output model.c model.m
   cc -O2 -o model model.c -lpthread -mcx16
   ./model
+
+--cache and --directory take tables as 'lockup table' prints them, with changed cells; without them
+the tables are ours.
 
 With --closed the cores may cease to ask at any time, and Rumur, not CMurphi, judges that each miss
 and each eviction can still be completed then.

@@ -94,6 +94,13 @@ returns-in-table c =
     let found = c.in_ok-name.ensures.rows in
     asked_of c.args.matches.now (codes "table") rows c.table_line.result named found c.table_line.ensures
 
+pub returns-in-text : goal.returns-in-text
+returns-in-text c =
+    let named = rw c.in-text.is at c.in_ok-name.ensures.name in
+    let rows = rows_of (found_of c.in_ok-name.given.now) in
+    let found = c.in_ok-name.ensures.rows in
+    asked_of c.args.matches.now (codes "what-if") rows c.what_if_line.result named found c.what_if_line.ensures
+
 pub returns-in-export : goal.returns-in-export
 returns-in-export c =
     let named = rw c.in-export.is at c.in_ok-name.ensures.name in

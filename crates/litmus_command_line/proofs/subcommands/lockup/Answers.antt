@@ -29,6 +29,8 @@ returns c =
     c.with-program-11.ensures in
     let judge = with_known c.with-program-11.result c.judge.result c.with-program-12.result _ _ check c.judge.ensures
     c.with-program-12.ensures in
-    let table = with_table c.with-program-12.result c.table.result c.with-program-13.result _ (λ names. refl) judge c.table.ensures
+    let what_if = with_known c.with-program-12.result c.what_if.result c.with-program-13.result _ _ judge c.what_if.ensures
     c.with-program-13.ensures in
-    with_export c.with-program-13.result c.export.result c.with.result table c.export.ensures c.with.ensures
+    let table = with_table c.with-program-13.result c.table.result c.with-program-14.result _ (λ names. refl) what_if
+    c.table.ensures c.with-program-14.ensures in
+    with_export c.with-program-14.result c.export.result c.with.result table c.export.ensures c.with.ensures

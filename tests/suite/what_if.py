@@ -64,6 +64,15 @@ def test_the_document_shows_a_run() -> None:
     same("run", (1, told[3] + "\n", ""), tuple(lockup("what-if", "--cache", "-", text="".join(mine))))
 
 
+def test_the_document_says_what_breaks() -> None:
+    """Of each change docs/PROTOCOL.md names the promise that the program shows where it is given no seed."""
+    rows = re.findall(r"^\| \[.*?what_if/(\w+)\.txt\)[^|]* \| ([^|]*) \|", read(ROOT / "docs/PROTOCOL.md"), re.M)
+    same("changes", len(GALLERY) + len(HARMLESS), len(rows))
+    for name, promise in rows:
+        first = played(name)[1].splitlines()[0]
+        want(first.startswith("nothing broke" if promise == "nothing" else f"broken: {promise}"), f"{name}: {first}")
+
+
 @each(lambda: GALLERY)
 def test_what_breaks(name: str, *promises: str) -> None:
     """Each change is found within a second, in at most 15 steps, of which one is a changed row."""

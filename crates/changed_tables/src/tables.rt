@@ -1,8 +1,9 @@
 //! Cells that differ from ours.
 
-ghost use Rattle.std.specs.Prelude.{◌≡◌, []};
+ghost use Rattle.std.specs.Prelude.{◌≡◌, [], IfSome};
 ghost use Rattle.changed_tables.specs.Cache.{is_at as is_cache_at, row_in};
 ghost use Rattle.changed_tables.specs.Directory.{is_at as is_directory_at, row_at, rule_in};
+ghost use Rattle.directory_table.specs.Row.{cell};
 
 use super::meaning::meaning_of;
 use super::numbers::{case_number, dir_case_number, entry_number, state_number};
@@ -99,6 +100,20 @@ impl Tables {
     /// What the directory does at an entry. It is None where the table has no such entry: in S a line has sharers, in M
     /// it has an owner, and elsewhere it has none.
     pub fn directory_row(
+        &self,
+        state: DirState,
+        owner: Option<CoreId>,
+        sharers: CoreSet,
+        event: DirEvent,
+    ) -> Option<DirRow>
+        ensures row { result ≡ row_at self.now.exclusive self.now.directory.items state owner sharers event }
+        ensures ours { self.now.directory.items ≡ []
+            → IfSome result (λ row. row ≡ cell self.now.exclusive state owner sharers event) }
+    {
+        self.row_at(state, owner, sharers, event)
+    }
+
+    fn row_at(
         &self,
         state: DirState,
         owner: Option<CoreId>,

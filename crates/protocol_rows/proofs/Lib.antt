@@ -1,2 +1,2 @@
 mod CacheCases
-mod DirectoryEntries
+pub mod DirectoryEntries

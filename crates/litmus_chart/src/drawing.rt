@@ -31,7 +31,16 @@ pub fn write_drawing<W: Write>(space: &SpaceTime, out: &mut W) -> fmt::Result {
     write_messages(space, out)?;
     write_spans(space, out)?;
     write_marks(space, out)?;
+    write_caption(space, out)?;
     out.write_str("</svg>\n")
+}
+
+fn write_caption<W: Write>(space: &SpaceTime, out: &mut W) -> fmt::Result {
+    let Some(caption) = space.caption else {
+        return Ok(());
+    };
+    let below = end_of(space).saturating_add(26);
+    writeln!(out, "<text class=\"wait\" x=\"8\" y=\"{below}\">{caption}</text>")
 }
 
 fn write_head<W: Write>(space: &SpaceTime, out: &mut W) -> fmt::Result {
@@ -299,6 +308,7 @@ fn write_reason<W: Write>(what: What, out: &mut W) -> fmt::Result {
         What::Stalled(stall) => write!(out, "stall {stall}"),
         What::Refused(refused) => write!(out, "refused {refused}"),
         What::Nothing => out.write_str("no message waits"),
+        What::Said(words) => out.write_str(words),
     }
 }
 

@@ -2,6 +2,7 @@
 //!
 //! [`run_chart`] and [`run_svg`] play a script on a machine, and look before each call at what it can change: the
 //! message in front of its channel, and the lines as they are. [`line_count`] is how many lines there are to draw.
+//! [`write_drawing`] draws a [`SpaceTime`] that somebody else recorded.
 //!
 //! - `chart` draws the commands, `picture` the messages and the changes of lines, of which `names` keeps those asked
 //!   for;
@@ -11,7 +12,10 @@
 //!   step sends.
 #![tactic(auto)]
 
+pub use arrow::{Participant, sender};
 pub use chart::run_chart;
+pub use drawing::write_drawing;
+pub use space_time::{SpaceTime, State, What};
 pub use svg::{line_count, run_svg};
 
 mod arrow;

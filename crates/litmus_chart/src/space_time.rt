@@ -50,6 +50,7 @@ pub enum What {
     Refused(Refused),
     /// No message waited.
     Nothing,
+    Said(&'static str),
 }
 
 /// .. in which row, and beside whose.
@@ -71,6 +72,8 @@ pub struct SpaceTime {
     pub marks: Vec<Mark>,
     /// The cores that had a copy, or sent or took a message.
     pub cores: CoreSet,
+    /// What is said below the last row.
+    pub caption: Option<&'static str>,
     // Those of `flown` that are in flight, first sent first.
     open: Vec<usize>,
     // What was seen last.
@@ -89,6 +92,7 @@ impl SpaceTime {
             flown: Vec::new(alloc),
             marks: Vec::new(alloc),
             cores: CoreSet::none(),
+            caption: None,
             open: Vec::new(alloc),
             dir: DirState::I,
             copies: ArrayVec::new(),
@@ -137,6 +141,19 @@ impl SpaceTime {
             sent: row,
             taken: None,
             message: None,
+        })?;
+        Ok(())
+    }
+
+    /// A participant came to a state.
+    pub fn enter(&mut self, who: Participant, state: State, row: usize) -> Result<(), TextFault>
+        ensures fault { IfErr result IsOfRun }
+    {
+        self.involve(who);
+        self.spans.push(Span {
+            who,
+            state,
+            from: row,
         })?;
         Ok(())
     }
@@ -220,12 +237,7 @@ impl SpaceTime {
         if view.dir != self.dir {
             self.dir = view.dir;
             let who = Participant::Directory(self.slice);
-            let state = State::Directory(view.dir);
-            self.spans.push(Span {
-                who,
-                state,
-                from: row,
-            })?;
+            self.enter(who, State::Directory(view.dir), row)?;
         }
         for (core, copy) in view.copies.iter().enumerate() {
             self.observe_copy(core, *copy, row)?;
@@ -243,15 +255,7 @@ impl SpaceTime {
         let Ok(number) = u8::try_from(core) else {
             return Ok(());
         };
-        let who = Participant::Core(CoreId(number));
-        self.involve(who);
-        let state = State::Copy(copy);
-        self.spans.push(Span {
-            who,
-            state,
-            from: row,
-        })?;
-        Ok(())
+        self.enter(Participant::Core(CoreId(number)), State::Copy(copy), row)
     }
 
     // The state of a core's copy when it was looked at last.
@@ -305,6 +309,15 @@ impl SpaceTime {
             };
             if self.first_open(flown.pick) == Some(place) {
                 self.name(number, machine.front(flown.pick));
+            }
+        }
+    }
+
+    /// Names the message in front of a channel.
+    pub fn name_front(&mut self, pick: Pick, message: Message) {
+        if let Some(place) = self.first_open(pick) {
+            if let Some(number) = self.open.get(place).copied() {
+                self.name(number, Some(message));
             }
         }
     }

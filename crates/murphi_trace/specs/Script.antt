@@ -28,6 +28,9 @@ use Rattle.murphi_trace.specs.Rule.{last_core, rule_of, the_line}
 abbrev pub Step : Type 0
 Step = (List ℕ × List ℕ) × Rule
 
+abbrev pub rule_in : Step → Rule
+rule_in step = step.1
+
 abbrev pub with_rule : List ℕ × List ℕ → Option Step
 with_rule fired = option_map (λ rule. (fired, rule)) (rule_of fired)
 

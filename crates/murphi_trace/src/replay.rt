@@ -12,7 +12,7 @@ ghost use Rattle.murphi_trace.specs.Replay.{text_of_told};
 ghost use Rattle.murphi_trace.specs.Rule.{last_core};
 ghost use Rattle.murphi_trace.specs.Script.{IsTraceFault, access_of, accesses_of, commands_of, greatest_core};
 ghost use Rattle.murphi_trace.specs.Script.{hand_before, is_trace};
-ghost use Rattle.murphi_trace.specs.Script.{names_data_e, script_of, step_by, steps_in, text_of_commands};
+ghost use Rattle.murphi_trace.specs.Script.{names_data_e, rule_in, script_of, step_by, steps_in, text_of_commands};
 ghost use Rattle.murphi_trace.specs.Script.{text_of_steps};
 
 use super::fired::{Fired, parted};
@@ -48,6 +48,16 @@ pub fn run_trace<W: Write>(trace: &[u8], out: &mut W) -> Result<u8, TextFault>
         Ok(()) => Ok(0),
         Err(_) => Err(TextFault::CannotWrite),
     }
+}
+
+/// The rule that a line of a trace tells of, if it tells of one by which something happens.
+pub fn rule_told_by(line: &[u8]) -> Option<Rule>
+    ensures { result ≡ option_map rule_in (step_by line.now) }
+{
+    let Some(fired) = Fired::told_by(line) else {
+        return None;
+    };
+    Rule::of(fired)
 }
 
 /// Whether some line tells of a rule that fired.

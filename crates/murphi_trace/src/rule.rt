@@ -15,8 +15,8 @@ use slice_queues_message::Pick;
 pub(crate) const LINE: LineAddr = LineAddr(0);
 
 /// What a rule of the model does.
-#[derive(Clone, Copy)]
-pub(crate) enum Rule {
+#[derive(Clone, Copy, Debug, PartialEq, Eq)]
+pub enum Rule {
     Load(CoreId),
     Write(CoreId),
     Evict(CoreId),

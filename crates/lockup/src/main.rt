@@ -124,16 +124,20 @@ where
         CommandLine::WhatIf {
             tables,
             cores,
+            states,
             rounds,
             seed,
             exclusive,
-            json,
+            form,
+            trace,
         } => {
             let play = Play {
                 cores,
+                states,
                 rounds,
                 seed,
-                json,
+                trace,
+                form,
             };
             print_what_breaks(rt, people, tables, exclusive, play)
         }

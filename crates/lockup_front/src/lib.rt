@@ -2,8 +2,8 @@
 //!
 //! - [`People`] are who is at the other end: [`complain`], [`report`] and [`show`] tell them what is wrong, [`Shown`] how
 //!   far a long run is, and [`Painted`] colors their answers. [`read`] reads a file, or standard input.
-//! - [`print_rows`], [`print_workload`], [`add_coverage`], [`answer_lines`] and [`print_what_breaks`] each do what a
-//!   subcommand asks for, and [`read_tables`] reads tables with changed cells.
+//! - [`print_rows`], [`print_workload`], [`add_coverage`], [`merge_parts`], [`answer_lines`] and [`print_what_breaks`]
+//!   each do what a subcommand asks for, and [`read_tables`] reads tables with changed cells.
 //! - [`tell_unused`] and [`tell_unforbidden`] say of a text that was run what its output doesn't.
 #![tactic(auto)]
 
@@ -11,24 +11,30 @@ pub use coverage::add_coverage;
 pub use files::{STANDARD_INPUT, read};
 pub use head::head_of;
 pub use painted::Painted;
+pub use parts::merge_parts;
 pub use people::{People, REFUSED, complain, report, show};
 pub use progress::{Counted, Shown};
 pub use prompt::answer_lines;
 pub use rows::{Rows, print_rows};
+pub use table_files::read_tables;
 pub use unforbidden::tell_unforbidden;
 pub use unused::tell_unused;
-pub use what_breaks::{Play, print_what_breaks, read_tables};
+pub use what_breaks::{Play, print_what_breaks};
 pub use workload::print_workload;
 
 mod coverage;
 mod files;
 mod head;
 mod painted;
+mod parts;
 mod people;
 mod progress;
 mod prompt;
 mod rows;
+mod table_files;
 mod unforbidden;
 mod unused;
 mod what_breaks;
+mod what_drawn;
+mod what_page;
 mod workload;

@@ -1,29 +1,45 @@
-//! One line of memory under tables with changed cells.
+//! What changed cells of the tables break on one line of memory.
 
 use super::files::read;
 use super::people::{People, REFUSED, complain, report};
-use changed_tables::{
-    CacheChange, DirectoryChange, TableFault, Tables, read_cache_table, read_directory_table,
-};
-use litmus_command_line::TableFiles;
+use super::table_files::read_tables;
+use super::what_drawn::diagram_of;
+use super::what_page::write_page;
+use changed_tables::Tables;
+use litmus_chart::write_drawing;
+use litmus_command_line::{TableFiles, WhatIfForm};
 use litmus_script::TextWriter;
-use litmus_text::TextFault;
+use litmus_text::{LineFault, Lines, TextFault};
+use murphi_trace::{Rule, rule_told_by};
+use slice_queues_message::Pick;
 use std::io::{self, BufWriter, Write};
 use std::rt::Files;
-use what_if::{Answer, what_if};
-use what_if_text::{write_answer, write_answer_json};
+use what_if::{Answer, Effort, Line, Promise, Step, Tried, replay, what_if};
+use what_if_text::{Told, write_told, write_told_json};
 
-/// What is played: so many rounds on so many cores, of which the first has this seed.
+/// What is played on so many cores, and how it is told: the steps of a trace in this file, or what a search among so
+/// many states finds and then rounds, of which the first has this seed.
 #[derive(Clone, Copy)]
-pub struct Play {
+pub struct Play<'a> {
     pub cores: u64,
+    pub states: u64,
     pub rounds: u64,
     pub seed: u64,
-    pub json: bool,
+    pub trace: Option<&'a str>,
+    pub form: WhatIfForm,
 }
 
 /// The exit status where a promise broke.
 const BROKEN: u8 = 1;
+
+/// What was found: steps, and the promise that they break, or what was tried in vain.
+#[derive(Drop)]
+struct Found {
+    cores: u8,
+    steps: Vec<Step>,
+    broken: Option<Promise>,
+    tried: Option<Tried>,
+}
 
 /// Plays a line under the tables in these files, and prints what broke. Returns the exit status.
 pub fn print_what_breaks<R>(
@@ -31,132 +47,194 @@ pub fn print_what_breaks<R>(
     people: People,
     files: TableFiles<'_>,
     exclusive: bool,
-    play: Play,
+    play: Play<'_>,
 ) -> u8
 where
     R: Files + Input + AllocGlobal + Print + Eprint,
 {
-    match read_tables(rt, people, files, exclusive) {
-        Ok(tables) => end(rt, people, played(rt, &tables, play)),
+    let tables = match read_tables(rt, people, files, exclusive) {
+        Ok(tables) => tables,
+        Err(status) => return status,
+    };
+    let found = match play.trace {
+        Some(file) => replayed(rt, people, &tables, play.cores, file),
+        None => searched(rt, people, &tables, play),
+    };
+    match found {
+        Ok(found) => end(rt, people, print(rt, people, &tables, &found, play.form)),
         Err(status) => status,
     }
 }
 
 /// Returns the exit status, and complains of a fault.
-fn end<R: Eprint>(rt: &R, people: People, played: Result<u8, TextFault>) -> u8 {
-    match played {
+fn end<R: Eprint>(rt: &R, people: People, printed: Result<u8, TextFault>) -> u8 {
+    match printed {
         Ok(status) => status,
-        Err(fault) => {
-            complain(rt, people, fault);
-            fault.status()
-        }
+        Err(fault) => failed(rt, people, fault),
     }
 }
 
-fn played<R: AllocGlobal + Print>(rt: &R, tables: &Tables, play: Play) -> Result<u8, TextFault> {
-    let cores = u8::try_from(play.cores).unwrap_or(u8::MAX);
-    match what_if(rt.alloc(), tables, cores, play.rounds, play.seed) {
-        Ok(answer) => {
-            print(rt, tables, cores, &answer, play.json)?;
-            Ok(match answer {
-                Answer::Broken(_) => BROKEN,
-                Answer::Nothing { .. } => 0,
-            })
-        }
-        Err(_) => Err(TextFault::NoMemory),
-    }
+fn failed<R: Eprint>(rt: &R, people: People, fault: TextFault) -> u8 {
+    complain(rt, people, fault);
+    fault.status()
 }
 
-fn print<R: AllocGlobal + Print>(
+fn searched<R: AllocGlobal + Eprint>(
     rt: &R,
+    people: People,
     tables: &Tables,
-    cores: u8,
-    answer: &Answer,
-    json: bool,
-) -> Result<(), TextFault> {
+    play: Play<'_>,
+) -> Result<Found, u8> {
+    let cores = u8::try_from(play.cores).unwrap_or(u8::MAX);
+    let effort = Effort {
+        states: play.states,
+        rounds: play.rounds,
+        seed: play.seed,
+    };
+    match what_if(rt.alloc(), tables, cores, effort) {
+        Ok(Answer::Broken(run)) => Ok(Found {
+            cores,
+            steps: run.steps,
+            broken: Some(run.broken),
+            tried: None,
+        }),
+        Ok(Answer::Nothing(tried)) => Ok(Found {
+            cores,
+            steps: Vec::new(rt.alloc()),
+            broken: None,
+            tried: Some(tried),
+        }),
+        Err(_) => Err(failed(rt, people, TextFault::NoMemory)),
+    }
+}
+
+/// Takes the steps of a trace. At Err, what is wrong was said, and this is the exit status.
+fn replayed<R>(
+    rt: &R,
+    people: People,
+    tables: &Tables,
+    cores: u64,
+    file: &str,
+) -> Result<Found, u8>
+where
+    R: Files + Input + AllocGlobal + Eprint,
+{
+    let text = match read(rt, file) {
+        Ok(text) => text,
+        Err(error) => return Err(report(rt, people, &error, format_args!("cannot read {file}"))),
+    };
+    let steps = match steps_of(rt, &text) {
+        Ok(steps) if steps.is_empty() => return Err(failed(rt, people, LineFault::NotATrace.at(1))),
+        Ok(steps) => steps,
+        Err(fault) => return Err(failed(rt, people, fault)),
+    };
+    let cores = cores_of(&steps, cores);
+    if let Some(number) = first_that_waits(tables, cores, &steps) {
+        complain(rt, people, format_args!("{file}: rule {number} can't happen under these tables"));
+        return Err(REFUSED);
+    }
+    Ok(Found {
+        broken: replay(tables, cores, &steps),
+        cores,
+        steps,
+        tried: None,
+    })
+}
+
+fn steps_of<R: AllocGlobal>(rt: &R, trace: &[u8]) -> Result<Vec<Step>, TextFault> {
+    let mut steps = Vec::new(rt.alloc());
+    for line in Lines::of(trace) {
+        if let Some(rule) = rule_told_by(line) {
+            steps.push(step_of(rule))?;
+        }
+    }
+    Ok(steps)
+}
+
+fn step_of(rule: Rule) -> Step {
+    match rule {
+        Rule::Load(core) => Step::Load(core),
+        Rule::Write(core) => Step::Write(core),
+        Rule::Evict(core) => Step::Evict(core),
+        Rule::Deliver(Pick::Req(_, core)) => Step::TakeRequest(core),
+        Rule::Deliver(Pick::Fwd(_, core)) => Step::TakeForwarded(core),
+        Rule::Deliver(Pick::Data(_, core)) => Step::TakeData(core),
+        Rule::Deliver(Pick::Ack { to, from, .. }) => Step::TakeInvAck {
+            core: to,
+            sender: from,
+        },
+        Rule::Deliver(Pick::Home(_)) => Step::TakeHome,
+    }
+}
+
+// As many cores as are asked for, or as take a step.
+fn cores_of(steps: &[Step], cores: u64) -> u8 {
+    let mut count = u8::try_from(cores).unwrap_or(u8::MAX);
+    for step in steps {
+        let last = match *step {
+            Step::Load(core)
+            | Step::Write(core)
+            | Step::Evict(core)
+            | Step::TakeRequest(core)
+            | Step::TakeForwarded(core)
+            | Step::TakeData(core) => core.0,
+            Step::TakeInvAck { core, sender } => core.0.max(sender.0),
+            Step::TakeHome => 0,
+        };
+        count = count.max(last.saturating_add(1));
+    }
+    count
+}
+
+// The number of the first step that can't happen.
+fn first_that_waits(tables: &Tables, cores: u8, steps: &[Step]) -> Option<usize> {
+    let mut line = Line::new(cores);
+    for (place, step) in steps.iter().enumerate() {
+        if let Ok(None) = line.step(tables, *step) {
+            return Some(place.saturating_add(1));
+        }
+    }
+    None
+}
+
+fn print<R: AllocGlobal + Print + Eprint>(
+    rt: &R,
+    people: People,
+    tables: &Tables,
+    found: &Found,
+    form: WhatIfForm,
+) -> Result<u8, TextFault> {
     let Ok(mut out) = BufWriter::new(rt.alloc(), io::writer(rt)) else {
         return Err(TextFault::NoMemory);
     };
     let mut text = TextWriter { out: &mut out };
-    let written = if json {
-        write_answer_json(tables, cores, answer, &mut text)
-    } else {
-        write_answer(rt.alloc(), tables, cores, answer, &mut text)
+    let told = Told {
+        cores: found.cores,
+        steps: &found.steps,
+        broken: found.broken,
+        tried: found.tried,
+    };
+    let written = match form {
+        WhatIfForm::Text => write_told(rt.alloc(), tables, told, &mut text),
+        WhatIfForm::Json => write_told_json(rt.alloc(), tables, told, &mut text),
+        WhatIfForm::Svg => write_drawing(&diagram_of(rt.alloc(), tables, told)?, &mut text),
+        WhatIfForm::Page => write_page(
+            rt.alloc(),
+            &diagram_of(rt.alloc(), tables, told)?,
+            tables,
+            told,
+            &mut text,
+        ),
     };
     match (written, out.flush()) {
-        (Ok(()), Ok(())) => Ok(()),
+        (Ok(()), Ok(())) => Ok(status_of(found)),
         _ => Err(TextFault::CannotWrite),
     }
 }
 
-/// Reads the tables in these files, and takes ours where none is named. At Err, what is wrong was said, and this is the
-/// exit status.
-pub fn read_tables<R>(
-    rt: &R,
-    people: People,
-    files: TableFiles<'_>,
-    exclusive: bool,
-) -> Result<Tables, u8>
-where
-    R: Files + Input + AllocGlobal + Eprint,
-{
-    Ok(Tables {
-        exclusive,
-        cache: cache_changes(rt, people, files.cache, exclusive)?,
-        directory: directory_changes(rt, people, files.directory, exclusive)?,
-    })
-}
-
-fn cache_changes<R>(
-    rt: &R,
-    people: People,
-    file: Option<&str>,
-    exclusive: bool,
-) -> Result<Vec<CacheChange>, u8>
-where
-    R: Files + Input + AllocGlobal + Eprint,
-{
-    let Some(file) = file else {
-        return Ok(Vec::new(rt.alloc()));
-    };
-    let text = text_of(rt, people, file)?;
-    match read_cache_table(rt.alloc(), exclusive, &text) {
-        Ok(changes) => Ok(changes),
-        Err(fault) => Err(refuse(rt, people, file, fault)),
+const fn status_of(found: &Found) -> u8 {
+    match found.broken {
+        Some(_) => BROKEN,
+        None => 0,
     }
-}
-
-fn directory_changes<R>(
-    rt: &R,
-    people: People,
-    file: Option<&str>,
-    exclusive: bool,
-) -> Result<Vec<DirectoryChange>, u8>
-where
-    R: Files + Input + AllocGlobal + Eprint,
-{
-    let Some(file) = file else {
-        return Ok(Vec::new(rt.alloc()));
-    };
-    let text = text_of(rt, people, file)?;
-    match read_directory_table(rt.alloc(), exclusive, &text) {
-        Ok(changes) => Ok(changes),
-        Err(fault) => Err(refuse(rt, people, file, fault)),
-    }
-}
-
-fn text_of<R>(rt: &R, people: People, file: &str) -> Result<Vec<u8>, u8>
-where
-    R: Files + Input + AllocGlobal + Eprint,
-{
-    match read(rt, file) {
-        Ok(text) => Ok(text),
-        Err(error) => Err(report(rt, people, &error, format_args!("cannot read {file}"))),
-    }
-}
-
-/// Says why a table can't be read, and returns the exit status.
-fn refuse<R: Eprint>(rt: &R, people: People, file: &str, fault: TableFault) -> u8 {
-    complain(rt, people, format_args!("{file}: {fault}"));
-    REFUSED
 }

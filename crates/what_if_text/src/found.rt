@@ -1,14 +1,15 @@
-//! What is told of a step besides its row: whether the row is ours, and what a write does that has joined.
+//! What is told of a step besides its row: whether the row is ours, what a write does that has joined, and which messages
+//! a changed cell doesn't take.
 
-use address_map::Block;
+use address_map::{Block, CoreId};
 use cache_table::{CopyState, Row};
 use changed_tables::Tables;
 use directory_table::{DirEntry, DirEvent, DirRow, dir_row};
 use protocol_rows::{CacheCase, cache_rule};
-use what_if::{Line, Met};
+use what_if::{Line, Met, Step};
 
 /// Whether our table has another row at the cell.
-pub(crate) fn changed(tables: &Tables, line: &Line, met: &Met) -> bool {
+pub fn is_changed(tables: &Tables, line: &Line, met: &Met) -> bool {
     match met {
         Met::Cache {
             state,
@@ -44,5 +45,46 @@ pub(crate) fn joined_row(tables: &Tables, line: &Line, met: &Met) -> Option<(Row
             Some((row, row != cache_rule(CopyState::S, CacheCase::Write)))
         }
         _ => None,
+    }
+}
+
+/// The steps by which messages of the core, or to it, are taken first in first out.
+pub(crate) const fn deliveries_to(core: CoreId) -> [Step; 3] {
+    [
+        Step::TakeRequest(core),
+        Step::TakeForwarded(core),
+        Step::TakeData(core),
+    ]
+}
+
+/// The cell, with its row, where a message waits that would be taken under our tables.
+pub(crate) fn blocked_by_change(
+    ours: &Tables,
+    tables: &Tables,
+    line: &Line,
+    step: Step,
+) -> Option<Met> {
+    let by_ours = line.meets(ours, step)?;
+    match line.meets(tables, step) {
+        Some(_) => None,
+        None => Some(blocked(by_ours)),
+    }
+}
+
+fn blocked(met: Met) -> Met {
+    match met {
+        Met::Cache {
+            core, state, case, ..
+        } => Met::Cache {
+            core,
+            state,
+            case,
+            row: Row::Blocked,
+        },
+        Met::Directory { event, .. } => Met::Directory {
+            event,
+            row: DirRow::Blocked,
+        },
+        Met::Joins(core) => Met::Joins(core),
     }
 }

@@ -1,65 +1,95 @@
 //! Tells what was found, as text for a terminal.
 
-use super::found::{changed, joined_row};
+use super::found::{blocked_by_change, deliveries_to, is_changed, joined_row};
 use super::state_text::write_state;
 use super::words::{
     name_of_forwarded, name_of_promise, write_cache_cell, write_data_kind, write_directory_row,
     write_entry, write_event, write_row,
 };
+use address_map::CoreId;
 use cache_table::CopyState;
 use changed_tables::Tables;
 use protocol_rows::CacheCase;
 use std::alloc::Global;
 use std::fmt;
 use std::fmt::Write;
-use what_if::{Answer, Line, Met, Run, Step};
+use what_if::{Line, Met, Promise, Step, Tried};
 
-/// Writes what was found: the run step by step and what it leads to, or that nothing broke.
-pub fn write_answer<W: Write>(
-    alloc: Global,
-    tables: &Tables,
-    cores: u8,
-    answer: &Answer,
-    out: &mut W,
-) -> fmt::Result {
-    match answer {
-        Answer::Broken(run) => write_run(alloc, tables, cores, run, out),
-        Answer::Nothing { steps, rounds } => {
-            let cores = Line::new(cores).count;
-            write!(
-                out,
-                "nothing broke in {steps} steps of {rounds} rounds on {cores} cores\n\nThis proves nothing: `lockup export murphi` writes a model that Rumur searches whole.\n"
-            )
-        }
-    }
+/// What is told: the steps of a run and the promise that they break, or what was tried in vain.
+#[derive(Clone, Copy)]
+pub struct Told<'a> {
+    pub cores: u8,
+    pub steps: &'a [Step],
+    pub broken: Option<Promise>,
+    pub tried: Option<Tried>,
 }
 
-fn write_run<W: Write>(
+/// Writes what was found: the run step by step and what it leads to, or that nothing broke.
+pub fn write_told<W: Write>(
     alloc: Global,
     tables: &Tables,
-    cores: u8,
-    run: &Run,
+    told: Told<'_>,
     out: &mut W,
 ) -> fmt::Result {
-    let promise = name_of_promise(run.broken);
-    write!(out, "broken: {promise}\n\n")?;
-    let mut line = Line::new(cores);
-    for (place, step) in run.steps.iter().enumerate() {
+    if let Some(tried) = told.tried {
+        return write_tried(told.cores, tried, out);
+    }
+    match told.broken {
+        Some(promise) => write!(out, "broken: {}\n\n", name_of_promise(promise))?,
+        None => write!(out, "nothing broke in these {} steps\n\n", told.steps.len())?,
+    }
+    let mut line = Line::new(told.cores);
+    for (place, step) in told.steps.iter().enumerate() {
         if let Some(met) = line.meets(tables, *step) {
-            write_step(alloc, tables, &line, (place, *step), &met, out)?;
+            write_step(alloc, tables, &line, (Some(place), *step), &met, out)?;
         }
         let _ = line.step(tables, *step);
     }
+    write_blocked(alloc, tables, &line, out)?;
     write!(out, "\n")?;
     write_state(&line, out)
 }
 
-// A step: who does what, the cell that it meets, and what its row does.
+fn write_tried<W: Write>(cores: u8, tried: Tried, out: &mut W) -> fmt::Result {
+    let Tried {
+        states,
+        all,
+        rounds,
+        steps,
+    } = tried;
+    let cores = Line::new(cores).count;
+    if all {
+        write!(out, "nothing broke in the {states} states of {cores} cores, by {steps} steps\n\nStates count once that differ only in which core is which. That all were seen isn't proved:")?;
+    } else {
+        write!(out, "nothing broke in {steps} steps, in {states} states and {rounds} rounds on {cores} cores\n\nThis proves nothing:")?;
+    }
+    write!(out, " `lockup export murphi` writes a model that Rumur searches whole.\n")
+}
+
+// The messages that wait for good where our tables would take them.
+fn write_blocked<W: Write>(
+    alloc: Global,
+    tables: &Tables,
+    line: &Line,
+    out: &mut W,
+) -> fmt::Result {
+    let ours = Tables::ours(alloc, tables.exclusive);
+    for core in 0..line.count {
+        for step in deliveries_to(CoreId(core)) {
+            if let Some(met) = blocked_by_change(&ours, tables, line, step) {
+                write_step(alloc, tables, line, (None, step), &met, out)?;
+            }
+        }
+    }
+    Ok(())
+}
+
+// A step: who does what, the cell that it meets, and what its row does. One that never comes has no place.
 fn write_step<W: Write>(
     alloc: Global,
     tables: &Tables,
     line: &Line,
-    at: (usize, Step),
+    at: (Option<usize>, Step),
     met: &Met,
     out: &mut W,
 ) -> fmt::Result {
@@ -71,13 +101,15 @@ fn write_step<W: Write>(
     write_actor(line, at.1, &mut actor)?;
     write_cell(line, met, &mut cell)?;
     write_does(met, &mut does)?;
-    let number = at.0.saturating_add(1);
-    write!(out, "{number:>3}  ")?;
+    match at.0 {
+        Some(place) => write!(out, "{:>3}  ", place.saturating_add(1))?,
+        None => write!(out, "  -  ")?,
+    }
     write_columns(
         actor.as_str(),
         cell.as_str(),
         does.as_str(),
-        changed(tables, line, met),
+        is_changed(tables, line, met),
         out,
     )?;
     write_joined(alloc, tables, line, met, out)

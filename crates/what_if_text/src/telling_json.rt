@@ -1,6 +1,8 @@
 //! Tells what was found, as JSON.
 
-use super::found::{changed, joined_row};
+use super::found::{blocked_by_change, deliveries_to, is_changed, joined_row};
+use super::messages_json::write_messages;
+use super::telling::Told;
 use super::words::{
     name_of_case, name_of_promise, write_cores, write_directory_row, write_entry, write_event,
     write_row,
@@ -8,36 +10,63 @@ use super::words::{
 use address_map::CoreId;
 use changed_tables::Tables;
 use protocol_rows::CacheCase;
+use std::alloc::Global;
 use std::fmt;
 use std::fmt::Write;
-use what_if::{Answer, CoreSide, Line, Met, Run, Step};
+use what_if::{CoreSide, Line, Met, Step, Tried};
 
 /// Writes what was found as one object: the promise that broke, the steps and what they lead to, or how much was
 /// tried.
-pub fn write_answer_json<W: Write>(
+pub fn write_told_json<W: Write>(
+    alloc: Global,
     tables: &Tables,
-    cores: u8,
-    answer: &Answer,
+    told: Told<'_>,
     out: &mut W,
 ) -> fmt::Result {
-    match answer {
-        Answer::Broken(run) => write_run(tables, cores, run, out),
-        Answer::Nothing { steps, rounds } => {
-            let cores = Line::new(cores).count;
-            write!(
-                out,
-                "{{\"broken\":null,\"steps_taken\":{steps},\"rounds\":{rounds},\"cores\":{cores}}}\n"
-            )
-        }
+    if let Some(tried) = told.tried {
+        return write_tried(told.cores, tried, out);
     }
+    match told.broken {
+        Some(promise) => write!(out, "{{\"broken\":\"{}\"", name_of_promise(promise))?,
+        None => write!(out, "{{\"broken\":null")?,
+    }
+    write!(out, ",\"steps\":[")?;
+    let line = write_steps(tables, told, out)?;
+    write!(out, "],\n\"blocked\":[")?;
+    write_blocked(alloc, tables, &line, out)?;
+    write!(out, "],\n\"copies\":[")?;
+    write_copies(&line, out)?;
+    write!(out, "],\n\"messages\":[")?;
+    write_messages(&line, out)?;
+    write!(out, "],\n\"directory\":")?;
+    write_directory(&line, out)?;
+    write!(out, "}}\n")
 }
 
-fn write_run<W: Write>(tables: &Tables, cores: u8, run: &Run, out: &mut W) -> fmt::Result {
-    let promise = name_of_promise(run.broken);
-    write!(out, "{{\"broken\":\"{promise}\",\"steps\":[")?;
-    let mut line = Line::new(cores);
+fn write_tried<W: Write>(cores: u8, tried: Tried, out: &mut W) -> fmt::Result {
+    let Tried {
+        states,
+        all,
+        rounds,
+        steps,
+    } = tried;
+    let cores = Line::new(cores).count;
+    let all = if all { "true" } else { "false" };
+    write!(
+        out,
+        "{{\"broken\":null,\"states\":{states},\"all\":{all},\"rounds\":{rounds},\"steps_taken\":{steps},\"cores\":{cores}}}\n"
+    )
+}
+
+// Writes the steps, and returns the line to which they lead.
+fn write_steps<W: Write>(
+    tables: &Tables,
+    told: Told<'_>,
+    out: &mut W,
+) -> Result<Line, fmt::Error> {
+    let mut line = Line::new(told.cores);
     let mut comma = "";
-    for step in &run.steps {
+    for step in told.steps {
         if let Some(met) = line.meets(tables, *step) {
             write!(out, "{comma}\n ")?;
             write_step(tables, &line, *step, &met, out)?;
@@ -45,11 +74,28 @@ fn write_run<W: Write>(tables: &Tables, cores: u8, run: &Run, out: &mut W) -> fm
         }
         let _ = line.step(tables, *step);
     }
-    write!(out, "],\n\"copies\":[")?;
-    write_copies(&line, out)?;
-    write!(out, "],\n\"directory\":")?;
-    write_directory(&line, out)?;
-    write!(out, "}}\n")
+    Ok(line)
+}
+
+// The messages that wait for good where our tables would take them.
+fn write_blocked<W: Write>(
+    alloc: Global,
+    tables: &Tables,
+    line: &Line,
+    out: &mut W,
+) -> fmt::Result {
+    let ours = Tables::ours(alloc, tables.exclusive);
+    let mut comma = "";
+    for core in 0..line.count {
+        for step in deliveries_to(CoreId(core)) {
+            if let Some(met) = blocked_by_change(&ours, tables, line, step) {
+                write!(out, "{comma}\n ")?;
+                write_step(tables, line, step, &met, out)?;
+                comma = ",";
+            }
+        }
+    }
+    Ok(())
 }
 
 fn write_step<W: Write>(
@@ -70,7 +116,7 @@ fn write_step<W: Write>(
         | Step::TakeInvAck { core, .. } => write!(out, "{}", core.0)?,
     }
     write_met(line, met, out)?;
-    write_changed(changed(tables, line, met), out)?;
+    write_changed(is_changed(tables, line, met), out)?;
     write_joined(tables, line, met, out)?;
     write!(out, "}}")
 }

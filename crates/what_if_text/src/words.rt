@@ -9,7 +9,8 @@ use std::fmt;
 use std::fmt::Write;
 use what_if::{DataKind, ForwardedKind, Promise, RequestKind};
 
-pub(crate) const fn name_of_promise(promise: Promise) -> &'static str {
+/// A promise, as it is told.
+pub const fn name_of_promise(promise: Promise) -> &'static str {
     match promise {
         Promise::OneWriter => "one writer, or only readers",
         Promise::NewestCopies => "a copy that may be read is the newest block",

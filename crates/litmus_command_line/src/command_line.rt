@@ -1,6 +1,8 @@
 ghost use Rattle.std.specs.Prelude.{◌≡◌, ◌<◌, map, IfOk, IfSome, Some, string_bytes, codes, false, is_some};
-ghost use Rattle.litmus_command_line.specs.CommandLine.{IsAsked, IsFormOf, IsLine, IsRead, IsScheduleFormOf, is_given, word_of, IsNumberOf};
-ghost use Rattle.litmus_command_line.specs.CommandLine.{IsNumberIfGiven, word_of_form, word_of_number, AreTexts, is_swept, texts_in};
+ghost use Rattle.litmus_command_line.specs.CommandLine.{IsAsked, IsFormOf, IsLine, IsRead};
+ghost use Rattle.litmus_command_line.specs.CommandLine.{IsScheduleFormOf, is_given, IsNumberOf};
+ghost use Rattle.litmus_command_line.specs.CommandLine.{IsNumberIfGiven, AreTexts, is_swept, texts_in};
+ghost use Rattle.litmus_command_line.specs.Subcommands.{word_of, word_of_form, word_of_number};
 ghost use Rattle.litmus_command_line.specs.CommandLine.{AreTableFiles, names_tables};
 ghost use Rattle.litmus_command_line.specs.CommandLine.{texts_of};
 ghost use Rattle.std.specs.Option.{option_map};

@@ -15,6 +15,8 @@ use Rattle.litmus_command_line.specs.declared.form.ScheduleForm.{ScheduleForm}
 use Rattle.litmus_command_line.specs.declared.form.ScheduleForm.TheVariants as schedule_forms
 use Rattle.litmus_command_line.specs.declared.form.ScriptForm.{ScriptForm}
 use Rattle.litmus_command_line.specs.declared.form.ScriptForm.TheVariants as script_forms
+use Rattle.litmus_command_line.specs.declared.form.WhatIfForm.{WhatIfForm}
+use Rattle.litmus_command_line.specs.declared.form.WhatIfForm.TheVariants as what_if_forms
 use Rattle.litmus_command_line.specs.declared.table.TableFiles.{TableFiles}
 
 -- the number of cores of a model
@@ -68,6 +70,18 @@ IsScheduleFormOf rows schedule_forms.Page = AreScheduleGiven rows false false tr
 IsScheduleFormOf rows schedule_forms.Coverage = AreScheduleGiven rows false false false true false
 IsScheduleFormOf rows schedule_forms.Trace = AreScheduleGiven rows false false false false true
 
+-- these options of `what-if` were given, and no other of them
+abbrev pub AreWhatIfGiven : List Row → (json svg page : Bool) → Type 0
+AreWhatIfGiven rows json svg page =
+    (json ≡ is_given (codes "json") rows) × (svg ≡ is_given (codes "svg") rows) × (page ≡ is_given (codes "page") rows)
+
+-- the options ask for this form of what breaks, and none of them is left out of it
+abbrev pub IsWhatIfFormOf : List Row → WhatIfForm → Type 0
+IsWhatIfFormOf rows what_if_forms.Text = AreWhatIfGiven rows false false false
+IsWhatIfFormOf rows what_if_forms.Json = AreWhatIfGiven rows true false false
+IsWhatIfFormOf rows what_if_forms.Svg = AreWhatIfGiven rows false true false
+IsWhatIfFormOf rows what_if_forms.Page = AreWhatIfGiven rows false false true
+
 -- rows are asked for, and no report
 abbrev pub is_swept : List Row → Bool
 is_swept rows =
@@ -100,11 +114,20 @@ IsLine name rows (command_lines.Litmus file seed limit trace json explain) =
     × IsNumberOf (codes "seed") rows seed × IsNumberOf (codes "limit") rows limit
     × IsNumberIfGiven (codes "trace") rows trace × (json ≡ is_given (codes "json") rows)
     × (explain ≡ is_given (codes "explain") rows)
-IsLine name rows (command_lines.Walk file rounds seed limit form explain) =
+IsLine name rows (command_lines.Walk file rounds seed limit jobs form explain) =
     (name ≡ codes "walk") × (first_of (codes "FILE") rows ≡ Some file.now)
     × IsNumberIfGiven (codes "rounds") rows rounds × IsNumberOf (codes "seed") rows seed
-    × IsNumberIfGiven (codes "limit") rows limit × IsScheduleFormOf rows form
-    × (explain ≡ is_given (codes "explain") rows)
+    × IsNumberIfGiven (codes "limit") rows limit × IsNumberIfGiven (codes "jobs") rows jobs
+    × IsScheduleFormOf rows form × (explain ≡ is_given (codes "explain") rows)
+    × (is_given (codes "part") rows ≡ false)
+IsLine name rows (command_lines.Part file rounds seed limit jobs explain) =
+    (name ≡ codes "walk") × (first_of (codes "FILE") rows ≡ Some file.now)
+    × IsNumberIfGiven (codes "rounds") rows rounds × IsNumberOf (codes "seed") rows seed
+    × IsNumberIfGiven (codes "limit") rows limit × IsNumberIfGiven (codes "jobs") rows jobs
+    × AreScheduleGiven rows false false false false false × (explain ≡ is_given (codes "explain") rows)
+    × (is_given (codes "part") rows ≡ true)
+IsLine name rows (command_lines.Merge file json) =
+    (name ≡ codes "merge") × (first_of (codes "TEST") rows ≡ Some file.now) × (json ≡ is_given (codes "json") rows)
 IsLine name rows (command_lines.Run file outstanding pace seed form explain) =
     (name ≡ codes "run") × (first_of (codes "FILE") rows ≡ Some file.now)
     × IsNumberIfGiven (codes "outstanding") rows outstanding × IsNumberIfGiven (codes "pace") rows pace
@@ -133,11 +156,12 @@ IsLine name rows (command_lines.Judge file limit line witness json explain) =
 IsLine name rows (command_lines.Table table exclusive json) =
     (name ≡ codes "table") × (first_of (codes "TABLE") rows ≡ Some (word_of table))
     × (exclusive ≡ is_given (codes "exclusive") rows) × (json ≡ is_given (codes "json") rows)
-IsLine name rows (command_lines.WhatIf tables cores rounds seed exclusive json) =
+IsLine name rows (command_lines.WhatIf tables cores rounds states seed exclusive form trace) =
     (name ≡ codes "what-if") × AreTableFiles rows tables
     × IsNumberOf (codes "cores") rows cores × IsNumberOf (codes "rounds") rows rounds
-    × IsNumberOf (codes "seed") rows seed
-    × (exclusive ≡ is_given (codes "exclusive") rows) × (json ≡ is_given (codes "json") rows)
+    × IsNumberOf (codes "states") rows states × IsNumberOf (codes "seed") rows seed
+    × (exclusive ≡ is_given (codes "exclusive") rows) × IsWhatIfFormOf rows form
+    × (option_map (λ t. t.now) trace ≡ first_of (codes "from-murphi") rows)
 IsLine name rows (command_lines.Export tables cores exclusive closed) =
     (name ≡ codes "export") × (first_of (codes "FORM") rows ≡ Some (word_of_form Murphi))
     × AreTableFiles rows tables × (first_of (codes "cores") rows ≡ Some (word_of_number cores))

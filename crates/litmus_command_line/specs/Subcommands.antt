@@ -53,14 +53,20 @@ litmus_app =
     ∷ number_rule_or (codes "limit") (codes "1000000") ∷ number_rule (codes "trace") ∷ lone_rule (codes "json")
     ∷ flag_rule (codes "explain") ∷ [])
 
--- the subcommand that runs one on random schedules, or prints a schedule
+-- the subcommand that runs one on random schedules, or prints a schedule, or a part of such rounds
 abbrev pub walk_app : App
 walk_app =
     with_rules (new_app (codes "walk"))
     (argument_rule (codes "FILE") ∷ positive_rule (codes "rounds") ∷ number_rule_or (codes "seed") (codes "1")
-    ∷ positive_rule (codes "limit") ∷ lone_rule (codes "script") ∷ lone_rule (codes "page")
-    ∷ lone_rule (codes "coverage") ∷ lone_rule (codes "trace") ∷ lone_rule (codes "json")
-    ∷ flag_rule (codes "explain") ∷ [])
+    ∷ positive_rule (codes "limit") ∷ positive_rule (codes "jobs") ∷ lone_rule (codes "script")
+    ∷ lone_rule (codes "page") ∷ lone_rule (codes "coverage") ∷ lone_rule (codes "trace") ∷ lone_rule (codes "part")
+    ∷ lone_rule (codes "json") ∷ flag_rule (codes "explain") ∷ [])
+
+-- the subcommand that adds parts up
+abbrev pub merge_app : App
+merge_app =
+    with_rules (new_app (codes "merge"))
+    (argument_rule (codes "TEST") ∷ several_rule (codes "PART") ∷ flag_rule (codes "json") ∷ [])
 
 -- the subcommand that runs programs
 abbrev pub run_app : App
@@ -108,8 +114,9 @@ abbrev pub what_if_app : App
 what_if_app =
     with_rules (new_app (codes "what-if"))
     (text_rule (codes "cache") ∷ text_rule (codes "directory") ∷ few_rule_or (codes "cores") (codes "3")
-    ∷ number_rule_or (codes "rounds") (codes "10000") ∷ number_rule_or (codes "seed") (codes "1")
-    ∷ flag_rule (codes "exclusive") ∷ flag_rule (codes "json") ∷ [])
+    ∷ number_rule_or (codes "states") (codes "100000") ∷ number_rule_or (codes "rounds") (codes "10000")
+    ∷ number_rule_or (codes "seed") (codes "1") ∷ lone_text_rule (codes "from-murphi") ∷ flag_rule (codes "exclusive")
+    ∷ flag_rule (codes "json") ∷ lone_rule (codes "svg") ∷ lone_rule (codes "page") ∷ [])
 
 -- the subcommand that prints a model in one of these forms, of one of these numbers of cores
 abbrev pub export_app : Bor (List (Bor Text)) → Bor (List (Bor Text)) → App
@@ -146,11 +153,15 @@ table_program names =
     (with_subcommand
     (with_subcommand
     (with_subcommand
-    (with_subcommand (with_subcommand (with_subcommand top_app script_app.top) coverage_app.top) try_app.top)
+    (with_subcommand
+    (with_subcommand
+    (with_subcommand (with_subcommand top_app script_app.top) coverage_app.top)
+    try_app.top)
     chart_app.top)
     page_app.top)
     litmus_app.top)
     walk_app.top)
+    merge_app.top)
     run_app.top)
     generate_app.top)
     test_app.top)

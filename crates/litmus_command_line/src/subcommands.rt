@@ -7,7 +7,7 @@ ghost use Rattle.litmus_command_line.specs.Subcommands.{top_app, with_rules};
 
 use clap::Command;
 use parameter::Parameter;
-use schedules::{generate, litmus, run, walk};
+use schedules::{generate, litmus, merge, run, walk};
 use scripts::{chart, coverage, page, prompt, script, test};
 use std::alloc::{AllocError, Global};
 use tables::{export, table, what_if};
@@ -34,6 +34,7 @@ pub(crate) fn lockup<'a>(alloc: Global) -> Result<Command<'a>, AllocError>
     let program = with(program, page(alloc));
     let program = with(program, litmus(alloc));
     let program = with(program, walk(alloc));
+    let program = with(program, merge(alloc));
     let program = with(program, run(alloc));
     let program = with(program, generate(alloc));
     let program = with(program, test(alloc));

@@ -1,6 +1,6 @@
 //! The subcommands that run litmus tests and programs.
 ghost use Rattle.std.specs.Prelude.{IfOk};
-ghost use Rattle.litmus_command_line.specs.Subcommands.{Reads, generate_app, litmus_app};
+ghost use Rattle.litmus_command_line.specs.Subcommands.{Reads, generate_app, litmus_app, merge_app};
 ghost use Rattle.litmus_command_line.specs.Subcommands.{run_app, walk_app};
 
 use super::parameter::{Bounds, Parameter};
@@ -71,32 +71,61 @@ pub(super) fn walk<'a>(alloc: Global) -> Result<Command<'a>, AllocError>
                 "How many moves a round may make, before it is given up",
                 Bounds::Positive,
             ),
+            Parameter::Number(
+                "jobs",
+                "How many processors walk side by side; each where none is given",
+                Bounds::Positive,
+            ),
             Parameter::LoneFlag(
                 "script",
                 "Print the round of this seed, as a script",
-                &["rounds"],
+                &["rounds", "jobs"],
             ),
             Parameter::LoneFlag(
                 "page",
                 "Print the round of this seed, as a page for a browser",
-                &["rounds", "script"],
+                &["rounds", "jobs", "script"],
             ),
             Parameter::LoneFlag(
                 "coverage",
                 "Print how often the rounds met each cell of the protocol's tables, and no outcomes",
-                &["script", "page"],
+                &["jobs", "script", "page"],
             ),
             Parameter::LoneFlag(
                 "trace",
                 "Print what each slice performed in the round of this seed, as a trace",
-                &["rounds", "script", "page", "coverage"],
+                &["rounds", "jobs", "script", "page", "coverage"],
+            ),
+            Parameter::LoneFlag(
+                "part",
+                "Print the rounds as a part, for 'lockup merge'",
+                &["script", "page", "coverage", "trace"],
             ),
             Parameter::LoneFlag(
                 "json",
                 "Print the outcomes as one value of JSON",
-                &["script", "page", "coverage", "trace"],
+                &["script", "page", "coverage", "trace", "part"],
             ),
             Parameter::Flag("explain", EXPLAIN_ERROR),
+        ],
+    )
+}
+
+pub(super) fn merge<'a>(alloc: Global) -> Result<Command<'a>, AllocError>
+    ensures { IfOk result (Reads merge_app) }
+{
+    subcommand(
+        alloc,
+        "merge",
+        "Adds the parts of a walk up, as one table",
+        help::MERGE,
+        &[
+            Parameter::Argument("TEST", "The litmus test; - is standard input"),
+            Parameter::Several(
+                "PART",
+                "What 'lockup walk --part' printed, in one file or more; - is standard input",
+            ),
+            Parameter::Flag("json", "Print the outcomes as one value of JSON"),
         ],
     )
 }

@@ -43,14 +43,32 @@ pub(super) fn what_if<'a>(alloc: Global) -> Result<Command<'a>, AllocError>
             DIRECTORY_FILE,
             Parameter::NumberOr("cores", "How many cores there are", Bounds::Few, "3"),
             Parameter::NumberOr(
+                "states",
+                "How many states are searched in breadth before rounds are drawn",
+                Bounds::Any,
+                "100000",
+            ),
+            Parameter::NumberOr(
                 "rounds",
                 "How many rounds of random steps",
                 Bounds::Any,
                 "10000",
             ),
             Parameter::NumberOr("seed", "The seed of the first round", Bounds::Any, "1"),
+            Parameter::LoneText(
+                "from-murphi",
+                "Replay this output of Rumur's in place of a search",
+                "FILE",
+                &["states", "rounds", "seed"],
+            ),
             Parameter::Flag("exclusive", "With the exclusive state"),
             Parameter::Flag("json", "Print what broke as one value of JSON"),
+            Parameter::LoneFlag("svg", "Draw what broke, as a picture in SVG", &["json"]),
+            Parameter::LoneFlag(
+                "page",
+                "Print what broke as a page for a browser",
+                &["json", "svg"],
+            ),
         ],
     )
 }

@@ -1,5 +1,5 @@
 use Rattle.std.proofs.Common.{refl}
-use Rattle.litmus.proofs.pages.page_of.Goals as goal
+use Rattle.litmus.proofs.views.page_of.Goals as goal
 
 pub returns-in-Ok-clause-page : goal.returns-in-Ok-clause-page
 returns-in-Ok-clause-page g c = (refl, record { is = c.in-Ok.ensures.printed })

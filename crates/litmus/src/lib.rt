@@ -10,11 +10,14 @@
 //! - [`run_trace`] writes a model checker's trace as a script.
 //! - [`run_prompt`] answers a script's lines one by one, and gives a [`Saver`] the script so far.
 //! - [`run_test`] tests a script against the answers that it wants.
-//! - [`run_litmus`] runs a litmus test over threads, and [`run_walk`] on random schedules without any; each counts the
-//!   outcomes. [`run_litmus_as`] and [`run_walk`] print them as a table or as JSON, and tell a [`Progress`] how far they
+//! - [`run_litmus`] runs a litmus test over threads, and [`run_walk`] on random schedules; each counts the outcomes.
+//!   [`run_litmus_as`] and [`run_walk`] print them as a table or as JSON, and tell a [`Progress`] how far they
 //!   are, which with [`Silent`] nobody sees. [`write_walk`] prints a round of such a schedule as a script, and
 //!   [`view_walk`] another [`View`] of that: its page, the traces of what it performs, or its coverage. [`trace_litmus`]
 //!   writes what a round over threads performed as traces.
+//! - [`print_parts`] prints a walk in parts, so that [`processors`] of many machines can share it. [`Parts`] reads what
+//!   was printed, if it is of the test with this [`sum_of`] its text, and puts it together: [`print_merged`] prints what
+//!   is [`Merged`] as one walk, in which a [`Gap`] is missing where no part has a round. A [`PartFault`] is why not.
 //! - [`run_programs`] runs programs on a random schedule, and reports what each core and each line met.
 //!   [`write_schedule`] prints that schedule as a script, and [`view_schedule`] another [`View`] of that; [`Limits`]
 //!   bound it. [`run_sweep`] runs them once for each row of a [`Sweep`], side by side, and prints the rows.
@@ -39,10 +42,12 @@ pub use litmus_command_line::{
     read_part_files, read_settings,
 };
 pub use litmus_outcomes::OutcomeForm;
+pub use litmus_rounds::{Gap, Merged, PartFault, Parts, processors, sum_of};
 pub use litmus_script::run_script;
 pub use litmus_test::{Progress, Silent};
 pub use litmus_text::TextFault;
 pub use murphi_trace::run_trace;
+pub use parts::{print_merged, print_parts};
 pub use program_generate::{GenerateFault, Size, Workload, write_workload};
 pub use program_run::{Form, run_programs, write_schedule};
 pub use program_sweep::{
@@ -67,6 +72,7 @@ pub use views::{View, view_schedule, view_walk};
 mod coverage;
 mod export;
 mod legend;
+mod parts;
 mod table;
 mod tests;
 mod traces;

@@ -1,5 +1,5 @@
 -- The arguments and options of subcommands, as `clap` has them.
-use Rattle.std.specs.Prelude.{◌≡◌, ◌∷◌, [], true, false, List, Some, codes}
+use Rattle.std.specs.Prelude.{◌≡◌, ◌∷◌, [], true, false, List, Some}
 use Rattle.std.specs.Borrow.{Bor}
 use Rattle.clap.specs.declared.builder.action.ArgAction.TheVariants.{Append, SetTrue}
 use Rattle.clap.specs.declared.builder.arg.Arg.{Arg}

@@ -1,6 +1,6 @@
 //! The program's subcommands, a file a family, and what builds them.
 ghost use Rattle.std.specs.Prelude.{◌≡◌, map, IfOk, IsOkAnd};
-ghost use Rattle.clap.specs.Words.{App, app_of, new_app};
+ghost use Rattle.clap.specs.Words.{app_of, new_app};
 ghost use Rattle.litmus_command_line.specs.Parameters.{rule_of_parameter};
 ghost use Rattle.litmus_command_line.specs.Subcommands.{IsLockup, IsWith, Reads};
 ghost use Rattle.litmus_command_line.specs.Subcommands.{top_app, with_rules};

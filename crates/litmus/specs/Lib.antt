@@ -1,5 +1,5 @@
 pub mod Coverage
-pub mod Pages
 pub mod Table
 pub mod Tests
 pub mod Traces
+pub mod Views

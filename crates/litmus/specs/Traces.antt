@@ -52,16 +52,3 @@ pub record HasTraces (script : List ℕ) (before after : Option (List ℕ)) : Ty
 -- .. or not whole
 pub record HasTracesFault (script : List ℕ) (fault : TextFault) : Type 0 where
   pub is : IsNotTraced (statements_from 0 (lines script)) fault
-
--- what is printed is a script, and its traces are written
-pub record ArePrinted (Prints : Option (List ℕ) → Option (List ℕ) → Type 0) (before after : Option (List ℕ)) : Type 0
-  where
-    pub script : List ℕ
-    pub printed : Prints (Some []) (Some script)
-    pub traces : HasTraces script before after
-
--- .. or why they aren't, or not whole
-pub record AreTracesCut (Prints : Option (List ℕ) → Option (List ℕ) → Type 0) (fault : TextFault) : Type 0 where
-  pub script : List ℕ
-  pub printed : Prints (Some []) (Some script)
-  pub cut : HasTracesFault script fault

@@ -1,18 +1,13 @@
-//! Coverage of walks and of schedules: each is printed as a script, and the cells that its steps met are counted.
+//! Coverage of walks: each round is printed as a script, and the cells that its steps met are counted.
 ghost use Rattle.std.specs.Prelude.{◌≡◌, ◌⊎◌, ◌-◌, ◌^◌, ℕ, List, Option, IfErr, IfOk, unwrap_or};
 ghost use Rattle.litmus.specs.Coverage.{AreCountsOf, AreCountsOfRounds, HasCounts, HasNoCounts, IsNotCounted, IsRoundNotCounted, status_with};
 ghost use Rattle.litmus.specs.Tests.{IsOfTest, IsTestNotRun};
 ghost use Rattle.litmus_script.specs.Machine.{bound_of};
 ghost use Rattle.litmus_script.specs.Play.{IsOfRun};
 ghost use Rattle.litmus_walk.specs.Script.{PrintsWalk};
-ghost use Rattle.program_run.specs.Run.{IsProgramNotRun, PrintsSchedule, limited_to};
-ghost use Rattle.program_text.specs.Fault.{IsProgramText, programs_of, settings_of};
-ghost use Rattle.program_text.specs.declared.programs.Programs.{Programs};
 
 use litmus_test::{LitmusTest, Progress};
 use litmus_text::TextFault;
-use program_run::write_schedule;
-use program_text::Limits;
 use protocol_coverage::Coverage;
 use script_coverage::{coverage_of, print_coverage};
 use std::alloc::Global;
@@ -124,38 +119,8 @@ fn count_round(
     }
 }
 
-/// Prints how often the steps of the script that [`write_schedule`] prints met each cell of the tables. Returns the exit
-/// status, which is 1 where nothing can move before the end.
-pub fn coverage_schedule<W: Write>(
-    alloc: Global,
-    input: &[u8],
-    given: Limits,
-    seed: u64,
-    out: &mut W,
-) -> Result<u8, TextFault>
-    ensures done { IfOk result (λ status. (programs : Programs)
-        × IsProgramText input.now (settings_of programs) programs.limits (programs_of programs)
-        × (counts : List (Option ℕ)) × AreCountsOf
-        (PrintsSchedule (bound_of programs.misses programs.config) (limited_to given programs) seed status)
-        counts) }
-    ensures fault { IfErr result (λ fault. IsProgramNotRun input.now fault
-        ⊎ ((status : ℕ) × (programs : Programs)
-        × IsProgramText input.now (settings_of programs) programs.limits (programs_of programs)
-        × IsNotCounted
-        (PrintsSchedule (bound_of programs.misses programs.config) (limited_to given programs) seed status)
-        fault)) }
-{
-    let mut script = Vec::new(alloc);
-    match write_schedule(alloc, input, given, seed, &mut script) {
-        Ok(status) => cover_script(alloc, script.as_slice(), status, out),
-        // writing to memory fails for want of it
-        Err(TextFault::CannotWrite) => Err(TextFault::NoMemory),
-        Err(fault) => Err(fault),
-    }
-}
-
 /// Prints the counts of a script that was printed with this status, and returns that.
-fn cover_script<W: Write>(
+pub(super) fn cover_script<W: Write>(
     alloc: Global,
     script: &[u8],
     status: u8,

@@ -5,21 +5,23 @@
 //!   answer beside its command, and [`run_json`] each command as a value of JSON. [`run_chart`] draws the run as a
 //!   sequence diagram, [`run_svg`] one line of it over time (of those that the machine has, [`line_count`]),
 //!   [`run_page`] writes it as a page for a browser, and [`run_waves`] as waves for a wave viewer.
-//! - [`run_coverage`] prints how often a script met each cell of the tables, [`coverage_walk`] how often the rounds of a
-//!   walk did, and [`coverage_schedule`] a run of programs. A [`Coverage`] adds what was printed, for [`print_coverage`]
-//!   to print.
+//! - [`run_coverage`] prints how often a script met each cell of the tables, and [`coverage_walk`] how often the rounds
+//!   of a walk did. A [`Coverage`] adds what was printed, for [`print_coverage`] to print.
 //! - [`run_trace`] writes a model checker's trace as a script.
 //! - [`run_prompt`] answers a script's lines one by one, and gives a [`Saver`] the script so far.
 //! - [`run_test`] tests a script against the answers that it wants.
-//! - [`run_litmus`] runs a litmus test over threads, and [`run_walk`] on random schedules without any; each counts the
-//!   outcomes. [`run_litmus_as`] and [`run_walk`] print them as a table or as JSON, and tell a [`Progress`] how far they
+//! - [`run_litmus`] runs a litmus test over threads, and [`run_walk`] on random schedules; each counts the outcomes.
+//!   [`run_litmus_as`] and [`run_walk`] print them as a table or as JSON, and tell a [`Progress`] how far they
 //!   are, which with [`Silent`] nobody sees. [`write_walk`] prints a round of such a schedule as a script, and
-//!   [`page_walk`] as that script's page. [`trace_litmus`] writes what a round over threads performed as traces, and
-//!   [`trace_walk`] what such a schedule performs.
+//!   [`view_walk`] another [`View`] of that: its page, the traces of what it performs, or its coverage. [`trace_litmus`]
+//!   writes what a round over threads performed as traces.
+//! - [`print_parts`] prints a walk in parts, so that [`processors`] of many machines can share it. [`Parts`] reads what
+//!   was printed, if it is of the test with this [`sum_of`] its text, and puts it together: [`print_merged`] prints what
+//!   is [`Merged`] as one walk, in which a [`Gap`] is missing where no part has a round. A [`PartFault`] is why not.
 //! - [`run_programs`] runs programs on a random schedule, and reports what each core and each line met.
-//!   [`write_schedule`] prints that schedule as a script, [`page_schedule`] as that script's page, and
-//!   [`trace_schedule`] what it performs as traces; [`Limits`] bound it. [`run_sweep`] runs them once for each row of a
-//!   [`Sweep`], side by side, and prints the rows. [`write_workload`] prints the programs of a workload.
+//!   [`write_schedule`] prints that schedule as a script, and [`view_schedule`] another [`View`] of that; [`Limits`]
+//!   bound it. [`run_sweep`] runs them once for each row of a [`Sweep`], side by side, and prints the rows.
+//!   [`write_workload`] prints the programs of a workload.
 //! - [`check_trace`] judges a trace, and answers its [`Verdict`]; [`run_check`] writes what that comes to,
 //!   [`run_check_explained`] with what was expected of an entry at fault, and [`run_check_json`] both as JSON.
 //!   [`run_judge`] judges it whatever the order in which several cores' entries stand, and prints that in a
@@ -31,19 +33,21 @@
 //! what comes of it can't be written, is a [`TextFault`]; [`hint`] says what a reader of it may want to know.
 #![tactic(auto)]
 
-pub use coverage::{coverage_schedule, coverage_walk};
+pub use coverage::coverage_walk;
 pub use export::{run_export, run_queries};
 pub use history_text::Extent;
 pub use litmus_chart::{line_count, run_chart, run_svg};
 pub use litmus_command_line::{
-    CommandLine, ModelCores, ScheduleForm, ScriptForm, Table, read_files, read_line, read_settings,
+    CommandLine, ModelCores, ScheduleForm, ScriptForm, Table, WhatIfForm, read_files, read_line,
+    read_part_files, read_settings,
 };
 pub use litmus_outcomes::OutcomeForm;
+pub use litmus_rounds::{Gap, Merged, PartFault, Parts, processors, sum_of};
 pub use litmus_script::run_script;
 pub use litmus_test::{Progress, Silent};
 pub use litmus_text::TextFault;
 pub use murphi_trace::run_trace;
-pub use pages::{page_schedule, page_walk};
+pub use parts::{print_merged, print_parts};
 pub use program_generate::{GenerateFault, Size, Workload, write_workload};
 pub use program_run::{Form, run_programs, write_schedule};
 pub use program_sweep::{
@@ -63,12 +67,13 @@ pub use tests::{run_litmus, run_litmus_as, run_walk, trace_litmus, write_walk};
 pub use text_hints::{TextKind, hint};
 pub use text_verdicts::{JudgeForm, run_check, run_check_explained, run_check_json, run_judge};
 pub use trace_check::{Reason, Verdict, check_trace};
-pub use traces::{trace_schedule, trace_walk};
+pub use views::{View, view_schedule, view_walk};
 
 mod coverage;
 mod export;
 mod legend;
-mod pages;
+mod parts;
 mod table;
 mod tests;
 mod traces;
+mod views;

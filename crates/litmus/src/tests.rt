@@ -81,9 +81,12 @@ pub fn trace_litmus<R: Threads + Wait + Sync, W: Write>(
 
 /// Runs a litmus test on random schedules, so many rounds or as many as it says, and prints their outcomes with the
 /// seed of the first round that had each outcome, or which round was stuck, or was given up after `limit` moves. Without
-/// a limit that takes 2^64 - 1 of them. Returns the exit status.
-pub fn run_walk<W: Write, P: Progress>(
+/// a limit that takes 2^64 - 1 of them. Rounds are walked in so many jobs side by side, which changes nothing in what is
+/// printed. Returns the exit status.
+pub fn run_walk<R: Threads + Sync, W: Write, P: Progress>(
     alloc: Global,
+    rt: &R,
+    jobs: usize,
     input: &[u8],
     rounds: Option<u64>,
     seed: u64,
@@ -100,7 +103,9 @@ pub fn run_walk<W: Write, P: Progress>(
     let test = LitmusTest::read(alloc, input)?;
     let rounds = rounds.unwrap_or(test.rounds);
     let most = limit.unwrap_or(u64::MAX);
-    let ended = litmus_rounds::run_walk(alloc, &test, rounds, seed, most, form, progress, out);
+    let ended = litmus_rounds::run_walk(
+        alloc, rt, jobs, &test, rounds, seed, most, form, progress, out,
+    );
     drop(test);
     ended
 }

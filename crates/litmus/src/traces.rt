@@ -1,87 +1,23 @@
-//! Traces of schedules: a schedule is printed as a script, that is played, and then each slice's log is written.
-ghost use Rattle.std.specs.Prelude.{◌≡◌, ◌⊎◌, ◌<◌, ◌-◌, ◌^◌, ℕ, List, [], Option, Some, IfErr, IfOk, OnOk};
-ghost use Rattle.std.specs.Prelude.{unwrap_or};
+//! Traces of the script of a schedule: it is played, and then each slice's log is written.
+ghost use Rattle.std.specs.Prelude.{◌≡◌, ◌⊎◌, ◌<◌, ℕ, List, [], Option, Some, IfErr, IfOk, OnOk};
 ghost use Rattle.std.specs.Io.KnownBytes.{Appends};
-ghost use Rattle.litmus.specs.Tests.{IsOfTest, IsTestNotRun};
-ghost use Rattle.litmus.specs.Traces.{ArePrinted, AreTracesCut, HasTraces, HasTracesFault, IsTracedOn, text_of_slice};
+ghost use Rattle.litmus.specs.Traces.{HasTraces, HasTracesFault, IsTracedOn, text_of_slice};
 ghost use Rattle.litmus.specs.Traces.{text_of_slices};
 ghost use Rattle.litmus_script.specs.Machine.{bound_of};
 ghost use Rattle.litmus_script.specs.Play.{IsOfRun};
 ghost use Rattle.litmus_script.specs.Script.{IsPlayedUpTo, Plainly, commands_of};
 ghost use Rattle.litmus_threads.specs.Trace.{heading_of};
-ghost use Rattle.litmus_walk.specs.Script.{PrintsWalk};
-ghost use Rattle.program_run.specs.Run.{IsProgramNotRun, PrintsSchedule, limited_to};
-ghost use Rattle.program_text.specs.Fault.{IsProgramText, programs_of, settings_of};
-ghost use Rattle.program_text.specs.declared.programs.Programs.{Programs};
 
-use super::tests::write_walk;
 use address_map::{Checked, SliceId};
 use litmus_script::{Commands, Machine, Script, TextWriter, written};
 use litmus_text::{Command, TextFault};
 use litmus_threads::write_heading;
 use mshr_file::{ExplicitFile, InvertedFile, MissFile, MissKind};
-use program_run::write_schedule;
-use program_text::Limits;
 use std::alloc::Global;
 use std::io::Write;
 
-/// Writes the log of each slice once the script was played that [`write_walk`] prints, as traces. Returns the exit
-/// status, which is 1 where the round is stuck or was given up.
-pub fn trace_walk<W: Write>(
-    alloc: Global,
-    input: &[u8],
-    seed: u64,
-    limit: Option<u64>,
-    out: &mut W,
-) -> Result<u8, TextFault>
-    ensures done { IfOk result (λ status. IsOfTest input.now (λ test. ArePrinted
-        (PrintsWalk test (bound_of test.misses test.config) seed (unwrap_or limit (2 ^ 64 - 1)) status)
-        (W.contents out.old) (W.contents out.new))) }
-    ensures fault { IfErr result (λ fault. IsTestNotRun input.now fault
-        ⊎ ((status : ℕ) × IsOfTest input.now (λ test. AreTracesCut
-        (PrintsWalk test (bound_of test.misses test.config) seed (unwrap_or limit (2 ^ 64 - 1)) status) fault))) }
-{
-    let mut script = Vec::new(alloc);
-    match write_walk(alloc, input, seed, limit, &mut script) {
-        Ok(status) => traces_of(alloc, script.as_slice(), status, out),
-        // writing to memory fails for want of it
-        Err(TextFault::CannotWrite) => Err(TextFault::NoMemory),
-        Err(fault) => Err(fault),
-    }
-}
-
-/// Writes the log of each slice once the script was played that [`write_schedule`] prints, as traces. Returns the exit
-/// status, which is 1 where nothing can move before the end.
-pub fn trace_schedule<W: Write>(
-    alloc: Global,
-    input: &[u8],
-    given: Limits,
-    seed: u64,
-    out: &mut W,
-) -> Result<u8, TextFault>
-    ensures done { IfOk result (λ status. (programs : Programs)
-        × IsProgramText input.now (settings_of programs) programs.limits (programs_of programs)
-        × ArePrinted
-        (PrintsSchedule (bound_of programs.misses programs.config) (limited_to given programs) seed status)
-        (W.contents out.old) (W.contents out.new)) }
-    ensures fault { IfErr result (λ fault. IsProgramNotRun input.now fault
-        ⊎ ((status : ℕ) × (programs : Programs)
-        × IsProgramText input.now (settings_of programs) programs.limits (programs_of programs)
-        × AreTracesCut
-        (PrintsSchedule (bound_of programs.misses programs.config) (limited_to given programs) seed status)
-        fault)) }
-{
-    let mut script = Vec::new(alloc);
-    match write_schedule(alloc, input, given, seed, &mut script) {
-        Ok(status) => traces_of(alloc, script.as_slice(), status, out),
-        // writing to memory fails for want of it
-        Err(TextFault::CannotWrite) => Err(TextFault::NoMemory),
-        Err(fault) => Err(fault),
-    }
-}
-
 /// Writes the traces of a script that was printed with this status, and returns that.
-fn traces_of<W: Write>(
+pub(super) fn traces_of<W: Write>(
     alloc: Global,
     script: &[u8],
     status: u8,

@@ -1,15 +1,18 @@
 -- What the program is with one more subcommand.
-use Rattle.std.proofs.Common.{◌≡◌, ◌∙◌, ◌+◌, ◌<◌, List, length, arith, false, not, sym, ap, ap₂, length-append}
-use Rattle.std.proofs.lemmas.Bool.{and_left, and_right, ne_eqb}
+use Rattle.std.proofs.Common.{◌≡◌, ◌∙◌, ◌+◌, ◌&&◌, ◌==◌, Bool, ℕ, zero, suc, List, length, true, false, arith, not, sym}
+use Rattle.std.proofs.Common.{ap, ap₂, length-append}
+use Rattle.std.proofs.Math.Bool.{and-true}
+use Rattle.std.proofs.lemmas.Bool.{ne_eqb}
 use Rattle.std.specs.Prelude.{IfOk, IsOkAnd, Result, Ok, Err}
 use Rattle.std.specs.Borrow.{Bor}
 use Rattle.clap.specs.Adds.{AddsConflicts}
 use Rattle.clap.specs.Walk.{is_empty, is_free_arg}
 use Rattle.clap.specs.declared.builder.arg.Arg.{Arg}
 use Rattle.clap.specs.declared.builder.command.Command.{Command}
-use Rattle.clap.specs.Words.{App, Text, app_of, rule_of, with_subcommand}
-use Rattle.litmus_command_line.specs.CommandLine.{IsExport, IsLockup, IsTable, IsTablesProgram, IsWith, Reads}
-use Rattle.litmus_command_line.specs.CommandLine.{table_app, table_program}
+use Rattle.clap.specs.Words.{App, Rule, Text, app_of, rule_of, with_subcommand}
+use Rattle.litmus_command_line.specs.Parameters.{HasRule}
+use Rattle.litmus_command_line.specs.Subcommands.{IsExport, IsLockup, IsTable, IsTablesProgram, IsWith, Reads}
+use Rattle.litmus_command_line.specs.Subcommands.{table_app, table_program}
 
 -- the program with a subcommand that is known
 pub with_known : {E : Type 0} (program made result : Result Command E) (before known : App)
@@ -55,13 +58,27 @@ with_export (Ok program) (Err e) (Ok new) is export added = absurd added
 with_export (Err e) made (Ok new) is export added = absurd added
 with_export program made (Err e) is export added = tt
 
+-- an option on which nothing else depends is free while there is nothing that it can't stand with
+free-with : (alone rest : Bool) (had ids both : ℕ) → both ≡ had + ids → (alone && (had == 0 && rest)) ≡ true
+    → (alone && (both == 0 && rest)) ≡ (ids == 0)
+free-with false rest had ids both sum is = cc (is)
+free-with true false zero ids both sum is = cc (is)
+free-with true true zero ids both sum is =
+    let same : both ≡ ids = omega (arith, sum) in
+    rw same (and-true (ids == 0))
+free-with true rest (suc had) ids both sum is =
+    let some : (suc had == 0) ≡ false = ne_eqb _ _ (λ none. omega (arith, none)) in
+    cc (is, some)
+
 -- an option that can't stand with some others has a rule on them
-pub rule-conflicting : (old new : Arg) (ids : List (Bor Text)) → 0 < length ids → AddsConflicts old new ids
-    → rule_of new ≡ record (rule_of old) { is_free = false }
-rule-conflicting old new ids some adds =
-    let longer : length new.conflicts.items ≡ length old.conflicts.items + length ids =
+pub rule-conflicting : (rule : Rule) (old new : Arg) (ids : List (Bor Text)) → rule.is_free ≡ true
+    → HasRule rule old → AddsConflicts old new ids → HasRule (record rule { is_free = is_empty ids }) new
+rule-conflicting rule old new ids free has adds =
+    let was : is_free_arg old ≡ true = ap (λ (r : Rule). r.is_free) has.0 ∙ free in
+    let count : length new.conflicts.items ≡ length old.conflicts.items + length ids =
     ap length adds.1 ∙ length-append old.conflicts.items ids in
-    let has_others : is_empty new.conflicts.items ≡ false = ne_eqb _ _ (λ none. omega arith) in
-    let free : is_free_arg (record old { conflicts = new.conflicts }) ≡ false =
-    and_right (not old.exclusive) _ (and_left _ _ has_others) in
-    ap rule_of adds.0 ∙ ap (λ is. record (rule_of old) { is_free = is }) free
+    let is : is_free_arg (record old { conflicts = new.conflicts }) ≡ is_empty ids =
+    free-with (not old.exclusive) _ (length old.conflicts.items) (length ids) _ count was in (
+      ap rule_of adds.0 ∙ ap₂ (λ (r : Rule) (f : Bool). record r { is_free = f }) has.0 is,
+      ap (λ (a : Arg). a.global) adds.0 ∙ has.1,
+    )

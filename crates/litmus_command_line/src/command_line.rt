@@ -1,13 +1,15 @@
 ghost use Rattle.std.specs.Prelude.{◌≡◌, ◌<◌, map, IfOk, IfSome, Some, string_bytes, codes, false, is_some};
-ghost use Rattle.litmus_command_line.specs.CommandLine.{IsAsked, IsFormOf, IsLine, IsRead, IsScheduleFormOf, is_given, word_of, IsNumberOf};
-ghost use Rattle.litmus_command_line.specs.CommandLine.{IsNumberIfGiven, word_of_form, word_of_number, AreTexts, is_swept, texts_in};
-ghost use Rattle.litmus_command_line.specs.CommandLine.{AreTableFiles, names_tables};
+ghost use Rattle.litmus_command_line.specs.CommandLine.{IsAsked, IsFormOf, IsLine, IsRead};
+ghost use Rattle.litmus_command_line.specs.CommandLine.{IsScheduleFormOf, is_given, IsNumberOf};
+ghost use Rattle.litmus_command_line.specs.CommandLine.{IsNumberIfGiven, AreTexts, is_swept, texts_in};
+ghost use Rattle.litmus_command_line.specs.Subcommands.{word_of, word_of_form, word_of_number};
+ghost use Rattle.litmus_command_line.specs.CommandLine.{AreTableFiles, IsWhatIfFormOf, names_tables};
 ghost use Rattle.litmus_command_line.specs.CommandLine.{texts_of};
 ghost use Rattle.std.specs.Option.{option_map};
 ghost use Rattle.clap.specs.Words.{found_of, rows_of, first_of, subcommand_rows_of};
 
 use super::export::{ModelCores, ModelForm};
-use super::form::{ScheduleForm, ScriptForm};
+use super::form::{ScheduleForm, ScriptForm, WhatIfForm};
 use super::subcommands::lockup;
 use super::table::{Table, TableFiles};
 use clap::error::ErrorKind;
@@ -54,14 +56,30 @@ pub enum CommandLine<'a> {
     },
     /// Run the litmus test in this file on random schedules: so many rounds, or as many as it says, of which the first
     /// has this seed. A round is given up that isn't over after `limit` moves, if a number is given. Print this form of
-    /// the rounds, or of the round of this seed.
+    /// the rounds, which so many processors walk side by side, or of the round of this seed.
     Walk {
         file: &'a str,
         rounds: Option<u64>,
         seed: u64,
         limit: Option<u64>,
+        jobs: Option<u64>,
         form: ScheduleForm,
         explain: bool,
+    },
+    /// Run the same rounds, and print them as a part, for `Merge` to add up.
+    Part {
+        file: &'a str,
+        rounds: Option<u64>,
+        seed: u64,
+        limit: Option<u64>,
+        jobs: Option<u64>,
+        explain: bool,
+    },
+    /// Add up the parts of a walk of the litmus test in this file, in the files that `read_part_files` reads. With
+    /// `json`, print the outcomes as a value of JSON.
+    Merge {
+        file: &'a str,
+        json: bool,
     },
     /// Run the programs in this file in the order that the seed draws, with so many accesses of a core under way and up
     /// to so many deliveries of each slice behind an access, if a number is given, and not as many as the text says.
@@ -124,15 +142,17 @@ pub enum CommandLine<'a> {
         json: bool,
     },
     /// Play one line of memory on so many cores under the tables in these files, with the exclusive state or without it:
-    /// so many rounds of random steps, of which the first has this seed. With `json`, print what broke as a value of
-    /// JSON.
+    /// so many states in breadth, and then so many rounds of random steps, of which the first has this seed. Or replay
+    /// what a model checker printed, in the file `trace`. Show what broke in this form.
     WhatIf {
         tables: TableFiles<'a>,
         cores: u64,
         rounds: u64,
+        states: u64,
         seed: u64,
         exclusive: bool,
-        json: bool,
+        form: WhatIfForm,
+        trace: Option<&'a str>,
     },
     /// Print a line's protocol, or that of the tables in these files, as a model of so many cores, with the exclusive
     /// state or without it, and what can be completed once no core asks any more, or not.
@@ -177,6 +197,14 @@ pub fn read_files<'a>(alloc: Global, words: &'a [String]) -> Result<Vec<&'a str>
         (λ texts. AreTexts (codes "FILE") (map string_bytes words.entry.now) (map (λ text. text.now) texts.items)) }
 {
     read_texts(alloc, words, "FILE")
+}
+
+/// Reads the files of parts that words name which ask to add them up.
+pub fn read_part_files<'a>(alloc: Global, words: &'a [String]) -> Result<Vec<&'a str>, Error>
+    ensures { IfOk result
+        (λ texts. AreTexts (codes "PART") (map string_bytes words.entry.now) (map (λ text. text.now) texts.items)) }
+{
+    read_texts(alloc, words, "PART")
 }
 
 fn read_texts<'a>(alloc: Global, words: &'a [String], name: &str) -> Result<Vec<&'a str>, Error>
@@ -236,6 +264,7 @@ fn asked<'a>(matches: &ArgMatches<'a>) -> Option<CommandLine<'a>>
         "page" => page_line(given),
         "litmus" => litmus_line(given),
         "walk" => walk_line(given),
+        "merge" => merge_line(given),
         "run" => run_line(given),
         "generate" => generate_line(given),
         "test" => test_line(given),
@@ -335,16 +364,38 @@ fn walk_line<'a>(given: &ArgMatches<'a>) -> Option<CommandLine<'a>>
     let rounds = number_if_given(given, "rounds")?;
     let seed = number_of(given, "seed")?;
     let limit = number_if_given(given, "limit")?;
+    let jobs = number_if_given(given, "jobs")?;
     let form = schedule_form_of(given)?;
     let explain = is_given(given, "explain");
-    Some(CommandLine::Walk {
-        file,
-        rounds,
-        seed,
-        limit,
-        form,
-        explain,
-    })
+    match (is_given(given, "part"), form) {
+        (false, form) => Some(CommandLine::Walk {
+            file,
+            rounds,
+            seed,
+            limit,
+            jobs,
+            form,
+            explain,
+        }),
+        (true, ScheduleForm::Report { json: false }) => Some(CommandLine::Part {
+            file,
+            rounds,
+            seed,
+            limit,
+            jobs,
+            explain,
+        }),
+        // The command has refused a part in another form.
+        (true, _) => None,
+    }
+}
+
+fn merge_line<'a>(given: &ArgMatches<'a>) -> Option<CommandLine<'a>>
+    ensures { IfSome result (IsLine (codes "merge") (rows_of (found_of given.now))) }
+{
+    let file = text_of(given, "TEST")?;
+    let json = is_given(given, "json");
+    Some(CommandLine::Merge { file, json })
 }
 
 /// The form that the options ask for, where they ask for one alone. The command has refused all others.
@@ -476,17 +527,37 @@ fn what_if_line<'a>(given: &ArgMatches<'a>) -> Option<CommandLine<'a>>
     let tables = table_files_of(given);
     let cores = number_of(given, "cores")?;
     let rounds = number_of(given, "rounds")?;
+    let states = number_of(given, "states")?;
     let seed = number_of(given, "seed")?;
     let exclusive = is_given(given, "exclusive");
-    let json = is_given(given, "json");
+    let form = what_if_form_of(given)?;
+    let trace = text_if_given(given, "from-murphi");
     Some(CommandLine::WhatIf {
         tables,
         cores,
         rounds,
+        states,
         seed,
         exclusive,
-        json,
+        form,
+        trace,
     })
+}
+
+/// The form that the options ask for, where they ask for one alone. The command has refused all others.
+fn what_if_form_of(given: &ArgMatches<'_>) -> Option<WhatIfForm>
+    ensures { IfSome result (IsWhatIfFormOf (rows_of (found_of given.now))) }
+{
+    let json = is_given(given, "json");
+    let svg = is_given(given, "svg");
+    let page = is_given(given, "page");
+    match (json, svg, page) {
+        (false, false, false) => Some(WhatIfForm::Text),
+        (true, false, false) => Some(WhatIfForm::Json),
+        (false, true, false) => Some(WhatIfForm::Svg),
+        (false, false, true) => Some(WhatIfForm::Page),
+        _ => None,
+    }
 }
 
 fn table_files_of<'a>(given: &ArgMatches<'a>) -> TableFiles<'a>

@@ -29,3 +29,16 @@ pub enum ScheduleForm {
     /// What each slice performed, as traces.
     Trace,
 }
+
+/// How what breaks under changed tables is shown.
+#[derive(Clone, Copy, Debug, PartialEq, Eq)]
+pub enum WhatIfForm {
+    /// As text.
+    Text,
+    /// As one value of JSON.
+    Json,
+    /// As a picture in SVG.
+    Svg,
+    /// As a page for a browser.
+    Page,
+}

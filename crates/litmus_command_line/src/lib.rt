@@ -1,13 +1,14 @@
 //! Reads the command line of the program `lockup`, by `clap`.
 //!
-//! [`read_line`] reads what the program's words ask for. Where it answers a [`CommandLine`], each of its parts is what
-//! `clap` reads of the words, as specs/CommandLine.antt says. [`read_settings`] reads the settings of a line that asks for
-//! rows, and [`read_files`] the files of one that asks for a sum, of which there may be any number.
+//! [`read_line`] reads what the program's words ask for. Where it answers a [`CommandLine`], each of
+//! its parts is what `clap` reads of the words, as specs/CommandLine.antt says. [`read_settings`] reads
+//! the settings of a line that asks for rows, [`read_files`] the files of one that asks for a sum, and
+//! [`read_part_files`] those of one that adds parts up, of which there may be any number.
 #![tactic(auto)]
 
-pub use command_line::{CommandLine, read_files, read_line, read_settings};
+pub use command_line::{CommandLine, read_files, read_line, read_part_files, read_settings};
 pub use export::ModelCores;
-pub use form::{ScheduleForm, ScriptForm};
+pub use form::{ScheduleForm, ScriptForm, WhatIfForm};
 pub use table::{Table, TableFiles};
 
 mod command_line;

@@ -118,9 +118,30 @@ So does one that isn't over after so many moves as --limit says: 'gave up round 
 With '--seed 5 --script' that round is printed, as a script for 'lockup script' and 'lockup chart',
 and with '--seed 5 --page' as a page, which a browser steps through.
 
+The processors walk side by side, all of them or as many as --jobs says, which changes nothing in the
+table. Several machines share a long walk by parts, each of other seeds, which 'lockup merge' adds up:
+
+  lockup walk sb.txt --rounds 1000000 --part > part1.txt
+  lockup walk sb.txt --rounds 1000000 --seed 1000001 --part > part2.txt
+  lockup merge sb.txt part1.txt part2.txt
+
 Documents: docs/TEXTS.md (the lines of a litmus test), docs/EXAMPLES.md (tests to begin with)
 
 Example: lockup walk examples/litmus/sb.txt --rounds 1000";
+
+/// What stands below the options of `merge`.
+pub const MERGE: &str = "\
+A part is what 'lockup walk --part' prints of some rounds of the test. A file may hold several, and
+files come in any order. The table is that of one walk with the rounds of all parts, each counted once.
+
+Parts of another test, with another limit or with seeds that are counted twice are refused. Seeds that
+no part counts are told as the options by which 'lockup walk --part' counts them:
+
+  --seed 1000001 --rounds 1000000
+
+Documents: docs/TEXTS.md (the lines of a part)
+
+Example: lockup merge sb.txt part1.txt part2.txt";
 
 /// What stands below the options of `run`.
 pub const RUN: &str = "\
@@ -234,12 +255,14 @@ Print a table, change a cell, and see which promise breaks:
   (in an editor: at S and Inv, 'Inv-Ack; S' in place of 'Inv-Ack; I')
   lockup what-if --cache mine.txt
 
-Each step of a round is an access, an eviction or a delivery, drawn from those that can happen; at the
-end messages are delivered until nothing moves. At each step it is judged whether there is one writer
-or only readers, whether readers have the newest block, whether each message has a row and room, and
-whether something can move while a miss waits. The first round that breaks a promise is shortened and
+Each step is an access, an eviction or a delivery. First states are searched in breadth, as many as
+--states says. Then rounds of random steps are drawn from those that can happen; at the end of each
+messages are delivered until nothing moves. At each step it is judged whether there is one writer or
+only readers, whether readers have the newest block, whether each message has a row and room, and
+whether something can move while a miss waits. The first run that breaks a promise is shortened and
 shown, with status 1. Where none does, that proves nothing: 'lockup export murphi' with the same
-tables writes a model that Rumur searches whole.
+tables writes a model that Rumur searches whole. What Rumur prints of a run that breaks a promise is
+replayed with --from-murphi and the same tables, cores and states.
 
 Documents: docs/PROTOCOL.md (the tables, and what changed cells break)
 

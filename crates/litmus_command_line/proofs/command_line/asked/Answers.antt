@@ -52,6 +52,13 @@ returns-in-walk c =
     let found = c.in_ok-name.ensures.rows in
     asked_of c.args.matches.now (codes "walk") rows c.walk_line.result named found c.walk_line.ensures
 
+pub returns-in-merge : goal.returns-in-merge
+returns-in-merge c =
+    let named = rw c.in-merge.is at c.in_ok-name.ensures.name in
+    let rows = rows_of (found_of c.in_ok-name.given.now) in
+    let found = c.in_ok-name.ensures.rows in
+    asked_of c.args.matches.now (codes "merge") rows c.merge_line.result named found c.merge_line.ensures
+
 pub returns-in-run : goal.returns-in-run
 returns-in-run c =
     let named = rw c.in-run.is at c.in_ok-name.ensures.name in

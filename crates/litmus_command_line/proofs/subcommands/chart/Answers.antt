@@ -1,7 +1,0 @@
-use Rattle.litmus_command_line.proofs.subcommands.chart.Goals as goal
-
-pub returns : goal.returns
-returns c =
-    let step_1 = c.and-command.ensures _ _ c.begin-command.ensures c.file.ensures in
-    let step_2 = c.and-command-2.ensures _ _ step_1 c.flag.ensures in
-    c.and.ensures _ _ step_2 c.number.ensures

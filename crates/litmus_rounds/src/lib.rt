@@ -3,10 +3,15 @@
 //!
 //! - src/outcome.rt: a round's outcome is read from the logs of its slices, and from their words once they are quiet
 //!   (specs/Outcome.antt).
-//! - src/run.rt: the rounds, one after another, and their table (specs/Run.antt).
+//! - src/stretch.rt: consecutive rounds, one after another, and their table (specs/Run.antt).
+//! - src/batch.rt: stretches side by side, whose tables are put together in the order of their rounds. So the table is
+//!   that of one round after another, however many jobs walk.
+//! - src/run.rt: all rounds, and what is printed of them.
 #![tactic(auto)]
 
-pub use run::run_walk;
+pub use run::{processors, run_walk};
 
+mod batch;
 mod outcome;
 mod run;
+mod stretch;

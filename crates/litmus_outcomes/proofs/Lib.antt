@@ -2,7 +2,8 @@ mod NamedRequestLemmas
 pub mod NameLemmas
 mod Counting
 mod Rows
-mod Adding
+pub mod Between
+mod Joining
 mod Cells
 mod Padding
 mod Unique

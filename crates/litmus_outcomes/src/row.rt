@@ -18,13 +18,13 @@ impl Model for Row {
 }
 
 impl Row {
-    /// An outcome that came in this round for the first time.
-    pub(crate) fn new(values: Vec<u64>, first: u64) -> Self
-        ensures { result ≡ record { values = values.items; rounds = 1; first = first } }
+    /// An outcome that came in so many rounds, in this one first.
+    pub(crate) fn new(values: Vec<u64>, rounds: u64, first: u64) -> Self
+        ensures { result ≡ record { values = values.items; rounds = rounds; first = first } }
     {
         Row {
             values,
-            rounds: 1,
+            rounds,
             first,
         }
     }
@@ -50,11 +50,11 @@ impl Row {
         self.first
     }
 
-    /// It came once more.
-    pub(crate) fn come_again(&mut self)
-        requires { self.old.rounds + 1 < 2 ^ 64 }
-        ensures { self.new ≡ record self.old { rounds = self.old.rounds + 1 } }
+    /// It came in so many more rounds.
+    pub(crate) fn come_again(&mut self, rounds: u64)
+        requires { self.old.rounds + rounds < 2 ^ 64 }
+        ensures { self.new ≡ record self.old { rounds = self.old.rounds + rounds } }
     {
-        self.rounds += 1;
+        self.rounds += rounds;
     }
 }

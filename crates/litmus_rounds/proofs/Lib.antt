@@ -1,2 +1,4 @@
 pub mod MatchLemmas
+pub mod MergeLemmas
+pub mod PartLemmas
 pub mod RoundLemmas

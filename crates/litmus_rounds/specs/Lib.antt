@@ -1,2 +1,4 @@
+pub mod Merge
 pub mod Outcome
+pub mod Parts
 pub mod Run

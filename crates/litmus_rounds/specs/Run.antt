@@ -1,12 +1,15 @@
 -- The rounds of a litmus test without threads, and what they print.
-use Rattle.std.specs.Prelude.{◌≡◌, ◌⊎◌, ℕ, ◌+◌, ◌%◌, ◌^◌, ◌<◌, List, length, All}
-use Rattle.std.specs.Prelude.{count_by, nat_eq, if◌then◌else◌, slice_get, Option, Some}
+use Rattle.std.specs.Prelude.{◌≡◌, ◌⊎◌, ℕ, ◌+◌, ◌*◌, ◌%◌, ◌^◌, ◌<◌, List, length, All}
+use Rattle.std.specs.Prelude.{count_by, nat_eq, if◌then◌else◌, slice_get, slice_index_or, IfOk, Option, Result, Some}
+use Rattle.std.specs.declared.alloc.AllocError.{AllocError}
 use Rattle.std.specs.Io.KnownBytes.{Appends}
 use Rattle.litmus_outcomes.specs.Forbid.{is_forbidden}
 use Rattle.litmus_outcomes.specs.Table.{IsTableOf, TableView}
 use Rattle.litmus_rounds.specs.Outcome.{IsOutcome}
-use Rattle.litmus_rounds.specs.declared.run.Ended.{Ended}
-use Rattle.litmus_rounds.specs.declared.run.Ended.TheVariants as ended_kinds
+use Rattle.litmus_outcomes.specs.declared.ended.Ended.{Ended}
+use Rattle.litmus_outcomes.specs.declared.ended.Ended.TheVariants as ended_kinds
+use Rattle.litmus_rounds.specs.declared.batch.Batch.{Batch}
+use Rattle.litmus_rounds.specs.declared.stretch.Stretch.{Stretch}
 use Rattle.litmus_test.specs.declared.test.LitmusTest.{LitmusTest}
 use Rattle.litmus_walk.specs.Done.{AreDone}
 use Rattle.litmus_walk.specs.Drawn.{IsDrawn, lines_of}
@@ -75,6 +78,20 @@ HaveEnded test bound seed most count table (ended_kinds.Stuck round) =
     (round < count) × AreRounds test bound seed most round table × IsStuck test bound (seed_of seed round) most
 HaveEnded test bound seed most count table (ended_kinds.GaveUp round) =
     (round < count) × AreRounds test bound seed most round table × GivesUp test bound (seed_of seed round) most
+
+-- a stretch of so many rounds, of which the first has the seed
+abbrev pub IsStretch : LitmusTest → Bound → (seed most count : ℕ) → Stretch → Type 0
+IsStretch test bound seed most count stretch = HaveEnded test bound seed most count stretch.outcomes stretch.ended
+
+-- how many rounds a batch has
+abbrev pub rounds_of : Batch → ℕ
+rounds_of batch = batch.jobs * batch.share
+
+-- the stretches of a batch, of which the first begins with the seed, unless memory ran out
+abbrev pub AreStretches : LitmusTest → Bound → (seed most : ℕ) → Batch → List (Result Stretch AllocError) → Type 0
+AreStretches test bound seed most batch made =
+    (place : ℕ) (d : Result Stretch AllocError) → place < batch.jobs
+    → IfOk (slice_index_or made place d) (IsStretch test bound (seed_of seed (place * batch.share)) most batch.share)
 
 -- one of so many rounds is told to be stuck, which it is, and those before it ended well
 pub record PrintsStuck (test : LitmusTest) (bound : Bound) (form : OutcomeForm) (count seed most status : ℕ)

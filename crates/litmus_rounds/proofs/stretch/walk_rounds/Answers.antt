@@ -1,9 +1,9 @@
 use Rattle.std.proofs.Common.{arith, inl, inr, refl}
 use Rattle.litmus_rounds.proofs.RoundLemmas.{no_rounds, rounds_push}
-use Rattle.litmus_rounds.proofs.run.walk_rounds.Goals as goal
+use Rattle.litmus_rounds.proofs.stretch.walk_rounds.Goals as goal
 
 pub loop-round-init : goal.loop-round-init
-loop-round-init g c = no_rounds _ _ _ _ _ c.requires
+loop-round-init g c = no_rounds _ _ _ _ _ c.requires.none
 
 pub add_outcome-requires-clause-fits : goal.add_outcome-requires-clause-fits
 add_outcome-requires-clause-fits g c =
@@ -20,7 +20,7 @@ loop-round-preserved g c =
     rounds_push _ _ _ _ _ _ _ added.0 c.loop-round.invariant (record {
       walk = walked.walked.recorded;
       walked = walked.ensures.walk;
-      drawn = rw (c.deref.ensures.value, c.in_ok-lines.ensures, over) at walked.ensures.drawn;
+      drawn = rw (c.requires.lines, over) at walked.ensures.drawn;
       done = walked.ensures.done over;
       quiet = walked.ensures.over over;
       outcome = added.1;
@@ -35,7 +35,7 @@ returns-in-Stuck g c =
         walk = walked.walked.recorded;
         walked = walked.ensures.walk;
         end = walked.walked.end;
-        drawn = rw (c.deref.ensures.value, c.in_ok-lines.ensures) at walked.ensures.drawn;
+        drawn = rw (c.requires.lines) at walked.ensures.drawn;
         stuck = inl c.in-Stuck.is;
       },
     )
@@ -48,7 +48,7 @@ returns-in-GaveUp g c =
       record {
         walk = walked.walked.recorded;
         walked = walked.ensures.walk;
-        drawn = rw (c.deref.ensures.value, c.in_ok-lines.ensures, c.in-GaveUp.is) at walked.ensures.drawn;
+        drawn = rw (c.requires.lines, c.in-GaveUp.is) at walked.ensures.drawn;
       },
     )
 
@@ -61,7 +61,7 @@ returns-then-not-added g c =
         walk = walked.walked.recorded;
         walked = walked.ensures.walk;
         end = walked.walked.end;
-        drawn = rw (c.deref.ensures.value, c.in_ok-lines.ensures) at walked.ensures.drawn;
+        drawn = rw (c.requires.lines) at walked.ensures.drawn;
         stuck = inr (c.in-Over.is, c.in_ok-added.ensures.none c.if-not-added.true);
       },
     )

@@ -1,0 +1,48 @@
+-- A walk in parts, and parts put together.
+use Rattle.std.specs.Prelude.{◌≡◌, ◌≢◌, ◌⊎◌, ℕ, ◌<◌, ◌≤◌, List, length, take, sum_by, slice_index_or, All, Any, Option}
+use Rattle.std.specs.Io.KnownBytes.{Appends}
+use Rattle.litmus_outcomes.specs.declared.ended.Ended.TheVariants as ended_kinds
+use Rattle.litmus_parts.specs.Form.{text_of_parts}
+use Rattle.litmus_parts.specs.declared.part.Part.{Part}
+use Rattle.litmus_rounds.specs.Run.{HaveEnded, seed_of}
+use Rattle.litmus_test.specs.declared.test.LitmusTest.{LitmusTest}
+use Rattle.mshr_file.specs.Miss.{Bound}
+
+-- the part is what its rounds are
+abbrev pub IsPartOf : LitmusTest → Bound → Part → Type 0
+IsPartOf test bound part = HaveEnded test bound part.seed part.most part.count part.outcomes part.ended
+
+-- what its first line says
+pub record IsPartWith (sum most seed count : ℕ) (part : Part) : Type 0 where
+  pub sum : part.sum ≡ sum
+  pub most : part.most ≡ most
+  pub seed : part.seed ≡ seed
+  pub count : part.count ≡ count
+
+-- how many rounds parts have
+abbrev pub count_of_parts : List Part → ℕ
+count_of_parts parts = sum_by (λ part. part.count) parts
+
+-- parts of so many consecutive rounds, of which the first has the seed: each is what its rounds are, and begins where the
+-- one before it ends
+pub record AreParts (test : LitmusTest) (bound : Bound) (sum count seed most : ℕ) (parts : List Part) : Type 0 where
+  pub each : All (IsPartOf test bound) parts
+  pub with : (k : ℕ) (d : Part) → k < length parts
+      → IsPartWith sum most (seed_of seed (count_of_parts (take k parts))) (slice_index_or parts k d).count
+      (slice_index_or parts k d)
+  pub counted : count_of_parts parts ≡ count
+
+-- parts of so many rounds are printed
+pub record ArePrinted (test : LitmusTest) (bound : Bound) (sum count seed most : ℕ) (before after : Option (List ℕ)) :
+    Type 0 where
+  pub parts : List Part
+  pub are : AreParts test bound sum count seed most parts
+  pub printed : Appends before after (text_of_parts parts)
+
+-- .. of all rounds, or of those up to one that has no outcome
+pub record PrintsParts (test : LitmusTest) (bound : Bound) (sum count seed most : ℕ) (before after : Option (List ℕ)) :
+    Type 0 where
+  pub done : ℕ
+  pub within : done ≤ count
+  pub printed : ArePrinted test bound sum done seed most before after
+  pub whole : (done ≡ count) ⊎ Any (λ part. part.ended ≢ ended_kinds.Done) printed.parts

@@ -1,0 +1,118 @@
+//! A walk in parts, each printed as soon as its rounds are over.
+ghost use Rattle.std.specs.Prelude.{◌≡◌, ◌<◌, ◌^◌, IfErr, IfOk, OnOk};
+ghost use Rattle.std.specs.Io.KnownBytes.{Appends, Keeps};
+ghost use Rattle.litmus_parts.specs.Form.{text_of_part};
+ghost use Rattle.litmus_rounds.specs.Parts.{IsPartOf, IsPartWith, PrintsParts};
+ghost use Rattle.litmus_script.specs.Machine.{bound_of};
+ghost use Rattle.litmus_script.specs.Play.{IsOfRun};
+
+use super::batch::walk_batches;
+use litmus_outcomes::Outcomes;
+use litmus_parts::{Part, push_part};
+use litmus_test::{LitmusTest, Progress, Silent};
+use litmus_text::TextFault;
+use stats_report::write_text;
+use std::alloc::{AllocError, Global};
+use std::io::Write;
+use std::thread::Threads;
+
+/// How many rounds a part has: about a minute's worth at most, which is lost where a walk is cut off.
+pub const PART_ROUNDS: u64 = 100_000;
+
+/// Walks through a litmus test so many times, and prints the outcomes in parts, each of [`PART_ROUNDS`] rounds or of those
+/// that are left, as soon as its rounds are over. The part with a round that is stuck or is given up is the last.
+pub fn print_parts<R: Threads + Sync, W: Write, P: Progress>(
+    alloc: Global,
+    rt: &R,
+    jobs: usize,
+    test: &LitmusTest<'_>,
+    sum: u64,
+    rounds: u64,
+    seed: u64,
+    most: u64,
+    progress: &mut P,
+    out: &mut W,
+) -> Result<(), TextFault>
+    ensures printed { OnOk result (PrintsParts test.now (bound_of test.now.misses test.now.config) sum rounds seed most
+        (W.contents out.old) (W.contents out.new)) }
+    ensures fault { IfErr result IsOfRun }
+{
+    let mut done = 0;
+    while done < rounds {
+        let count = (rounds - done).min(PART_ROUNDS);
+        let from = seed.wrapping_add(done);
+        let part = walk_part(alloc, rt, jobs, test, sum, count, from, most)?;
+        print_part(alloc, &part, out)?;
+        if !part.ended.is_done() {
+            return Ok(());
+        }
+        done += count;
+        progress.done(done, rounds);
+    }
+    Ok(())
+}
+
+fn walk_part<R: Threads + Sync>(
+    alloc: Global,
+    rt: &R,
+    jobs: usize,
+    test: &LitmusTest<'_>,
+    sum: u64,
+    count: u64,
+    seed: u64,
+    most: u64,
+) -> Result<Part, AllocError>
+    ensures walked { IfOk result (IsPartOf test.now (bound_of test.now.misses test.now.config)) }
+    ensures with { IfOk result (IsPartWith sum most seed count) }
+{
+    let mut outcomes = Outcomes::new(alloc);
+    let ended = walk_batches(
+        alloc,
+        rt,
+        jobs,
+        test,
+        count,
+        seed,
+        most,
+        &mut Silent,
+        &mut outcomes,
+    )?;
+    Ok(Part {
+        sum,
+        most,
+        seed,
+        count,
+        outcomes,
+        ended,
+    })
+}
+
+fn print_part<W: Write>(alloc: Global, part: &Part, out: &mut W) -> Result<(), TextFault>
+    ensures printed { OnOk result (Appends (W.contents out.old) (W.contents out.new) (text_of_part part.now)) }
+    ensures fault { IfErr result IsOfRun }
+{
+    let mut text = Vec::new(alloc);
+    push_part(&mut text, part)?;
+    write(out, text.as_slice())?;
+    flush(out)
+}
+
+fn write<W: Write>(out: &mut W, text: &[u8]) -> Result<(), TextFault>
+    ensures printed { OnOk result (Appends (W.contents out.old) (W.contents out.new) text.now) }
+    ensures fault { IfErr result IsOfRun }
+{
+    match write_text(out, text) {
+        Ok(()) => Ok(()),
+        Err(_) => Err(TextFault::CannotWrite),
+    }
+}
+
+fn flush<W: Write>(out: &mut W) -> Result<(), TextFault>
+    ensures kept { OnOk result (Keeps (W.contents out.old) (W.contents out.new)) }
+    ensures fault { IfErr result IsOfRun }
+{
+    match out.flush() {
+        Ok(()) => Ok(()),
+        Err(_) => Err(TextFault::CannotWrite),
+    }
+}

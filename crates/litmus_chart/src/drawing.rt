@@ -227,12 +227,12 @@ fn edges(from: usize, to: usize) -> (usize, usize) {
     }
 }
 
-// Where a message in flight ends: short of the next lifeline.
+// Where a message in flight ends: short of its receiver's lifeline.
 fn on_its_way(from: usize, to: usize) -> usize {
     if from < to {
-        from.saturating_add(LIFE / 3)
+        to.saturating_sub(LIFE / 3)
     } else {
-        from.saturating_sub(LIFE / 3)
+        to.saturating_add(LIFE / 3)
     }
 }
 

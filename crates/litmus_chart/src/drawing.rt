@@ -40,7 +40,10 @@ fn write_caption<W: Write>(space: &SpaceTime, out: &mut W) -> fmt::Result {
         return Ok(());
     };
     let below = end_of(space).saturating_add(26);
-    writeln!(out, "<text class=\"wait\" x=\"8\" y=\"{below}\">{caption}</text>")
+    writeln!(
+        out,
+        "<text class=\"wait\" x=\"8\" y=\"{below}\">{caption}</text>"
+    )
 }
 
 fn write_head<W: Write>(space: &SpaceTime, out: &mut W) -> fmt::Result {

@@ -8,19 +8,19 @@
 
 use changed_tables::Tables;
 use litmus::{
-    CommandLine, Extent, Form, JudgeForm, Limits, ModelCores, OutcomeForm, ScheduleForm,
-    ScriptForm, Seeds, Size, SweepFault, TextKind, coverage_schedule, coverage_walk, hint,
-    line_count, page_schedule, page_walk, read_line, run_beside, run_chart, run_check,
+    CommandLine, Extent, Form, JudgeForm, Limits, Merged, ModelCores, OutcomeForm, ScheduleForm,
+    ScriptForm, Seeds, Size, SweepFault, TextKind, View, coverage_walk, hint, line_count,
+    print_merged, print_parts, processors, read_line, run_beside, run_chart, run_check,
     run_check_explained, run_check_json, run_coverage, run_explained, run_export, run_json,
     run_judge, run_litmus_as, run_page, run_programs, run_queries, run_script, run_svg, run_table,
-    run_table_cells, run_test, run_trace, run_walk, run_waves, trace_litmus, trace_schedule,
-    trace_walk, write_schedule, write_walk,
+    run_table_cells, run_test, run_trace, run_walk, run_waves, trace_litmus, view_schedule,
+    view_walk, write_schedule, write_walk,
 };
 use litmus_text::TextFault;
 use lockup_front::{
     Counted, Painted, People, Play, REFUSED, Rows, Shown, add_coverage, answer_lines, complain,
-    head_of, print_rows, print_what_breaks, print_workload, read, read_tables, report, show,
-    tell_unforbidden, tell_unused,
+    head_of, merged_parts, print_rows, print_what_breaks, print_workload, read, read_tables,
+    report, show, tell_unforbidden, tell_unused,
 };
 use std::alloc::Global;
 use std::env::VarError;
@@ -108,10 +108,52 @@ where
             seed,
         } => print_workload(rt, people, name, Size { cores, size, seed }),
         CommandLine::Coverage => add_coverage(rt, people, words),
+        CommandLine::Merge { file, json } => merge(rt, people, words, file, json),
         CommandLine::WhatIf { .. } | CommandLine::Export { .. } => {
             run_under_tables(rt, people, line)
         }
         _ => answer(rt, line, people),
+    }
+}
+
+/// Puts parts of a walk of the litmus test in this file together, and prints what one walk of all their rounds prints.
+/// Returns the exit status.
+fn merge<R>(rt: &R, people: People, words: &[String], file: &str, json: bool) -> u8
+where
+    R: Files + Input + AllocGlobal + Print + Eprint,
+{
+    let test = match read(rt, file) {
+        Ok(test) => test,
+        Err(error) => return report(rt, people, &error, format_args!("cannot read {file}")),
+    };
+    match merged_parts(rt, people, words, test.as_slice()) {
+        Ok(merged) => end(rt, people, write_merged(rt, test.as_slice(), &merged, json)),
+        Err(status) => status,
+    }
+}
+
+fn write_merged<R>(rt: &R, test: &[u8], merged: &Merged, json: bool) -> Result<u8, TextFault>
+where
+    R: AllocGlobal + Print,
+{
+    let Ok(mut out) = BufWriter::new(rt.alloc(), io::writer(rt)) else {
+        return Err(TextFault::NoMemory);
+    };
+    let printed = print_merged(rt.alloc(), test, merged, outcome_form(json), &mut out);
+    match out.flush() {
+        Ok(()) => printed,
+        Err(_) => Err(TextFault::CannotWrite),
+    }
+}
+
+/// Returns the exit status, and complains of a fault.
+fn end<R: Eprint>(rt: &R, people: People, printed: Result<u8, TextFault>) -> u8 {
+    match printed {
+        Ok(status) => status,
+        Err(fault) => {
+            complain(rt, people, fault);
+            fault.status()
+        }
     }
 }
 
@@ -159,13 +201,7 @@ fn print_model<R>(rt: &R, people: People, tables: &Tables, cores: ModelCores, cl
 where
     R: AllocGlobal + Print + Eprint,
 {
-    match write_model(rt, tables, cores, closed) {
-        Ok(status) => status,
-        Err(fault) => {
-            complain(rt, people, fault);
-            fault.status()
-        }
-    }
+    end(rt, people, write_model(rt, tables, cores, closed))
 }
 
 fn write_model<R>(rt: &R, tables: &Tables, cores: ModelCores, closed: bool) -> Result<u8, TextFault>
@@ -328,9 +364,9 @@ const fn explained_kind(line: CommandLine<'_>) -> Option<TextKind> {
         | CommandLine::Chart { .. }
         | CommandLine::Page { .. } => Some(TextKind::Script),
         CommandLine::Test { explain: true, .. } => Some(TextKind::Exercise),
-        CommandLine::Litmus { explain: true, .. } | CommandLine::Walk { explain: true, .. } => {
-            Some(TextKind::LitmusTest)
-        }
+        CommandLine::Litmus { explain: true, .. }
+        | CommandLine::Walk { explain: true, .. }
+        | CommandLine::Part { explain: true, .. } => Some(TextKind::LitmusTest),
         CommandLine::Run { explain: true, .. } => Some(TextKind::Programs),
         CommandLine::Check { explain: true, .. } => Some(TextKind::Trace),
         CommandLine::Judge { explain: true, .. } => Some(TextKind::History),
@@ -352,12 +388,14 @@ fn file_of<'a>(line: CommandLine<'a>) -> Option<&'a str> {
         | CommandLine::Test { file, .. }
         | CommandLine::Litmus { file, .. }
         | CommandLine::Walk { file, .. }
+        | CommandLine::Part { file, .. }
         | CommandLine::Run { file, .. }
         | CommandLine::Sweep { file, .. }
         | CommandLine::Check { file, .. }
         | CommandLine::Judge { file, .. } => Some(file),
         CommandLine::Try { file } => file,
         CommandLine::Coverage
+        | CommandLine::Merge { .. }
         | CommandLine::Generate { .. }
         | CommandLine::WhatIf { .. }
         | CommandLine::Table { .. }
@@ -437,22 +475,46 @@ where
             rounds,
             seed,
             limit,
+            jobs,
             form,
             ..
         } => match form {
             ScheduleForm::Script => write_walk(alloc, input, seed, limit, out),
             ScheduleForm::Page => {
-                page_walk(alloc, head_of(alloc, file, seed)?, input, seed, limit, out)
+                let head = head_of(alloc, file, seed)?;
+                view_walk(alloc, View::Page, head, input, seed, limit, out)
             }
-            ScheduleForm::Trace => trace_walk(alloc, input, seed, limit, out),
+            ScheduleForm::Trace => {
+                view_walk(
+                    alloc,
+                    View::Traces,
+                    Vec::new(alloc),
+                    input,
+                    seed,
+                    limit,
+                    out,
+                )
+            }
             ScheduleForm::Coverage => {
                 coverage_walk(alloc, input, rounds, seed, limit, shown, out)
             }
             ScheduleForm::Report { json } => {
-                let form = outcome_form(json);
-                run_walk(alloc, input, rounds, seed, limit, form, shown, out)
+                let (jobs, form) = (jobs_of(rt, jobs), outcome_form(json));
+                run_walk(
+                    alloc, rt, jobs, input, rounds, seed, limit, form, shown, out,
+                )
             }
         },
+        CommandLine::Part {
+            rounds,
+            seed,
+            limit,
+            jobs,
+            ..
+        } => {
+            let jobs = jobs_of(rt, jobs);
+            print_parts(alloc, rt, jobs, input, rounds, seed, limit, shown, out)
+        }
         CommandLine::Run {
             file,
             outstanding,
@@ -465,10 +527,17 @@ where
             match form {
                 ScheduleForm::Script => write_schedule(alloc, input, limits, seed, out),
                 ScheduleForm::Page => {
-                    page_schedule(alloc, head_of(alloc, file, seed)?, input, limits, seed, out)
+                    let head = head_of(alloc, file, seed)?;
+                    view_schedule(alloc, View::Page, head, input, limits, seed, out)
                 }
-                ScheduleForm::Trace => trace_schedule(alloc, input, limits, seed, out),
-                ScheduleForm::Coverage => coverage_schedule(alloc, input, limits, seed, out),
+                ScheduleForm::Trace => {
+                    let head = Vec::new(alloc);
+                    view_schedule(alloc, View::Traces, head, input, limits, seed, out)
+                }
+                ScheduleForm::Coverage => {
+                    let head = Vec::new(alloc);
+                    view_schedule(alloc, View::Coverage, head, input, limits, seed, out)
+                }
                 ScheduleForm::Report { json } => {
                     run_programs(alloc, input, limits, seed, report_form(json), shown, out)
                 }
@@ -478,6 +547,7 @@ where
         CommandLine::Sweep { .. }
         | CommandLine::Generate { .. }
         | CommandLine::Coverage
+        | CommandLine::Merge { .. }
         | CommandLine::WhatIf { .. }
         | CommandLine::Export { .. } => Ok(REFUSED),
         CommandLine::Check { json: true, .. } => run_check_json(alloc, input, out),
@@ -504,6 +574,14 @@ where
             ..
         } => run_table(table, exclusive, out),
         CommandLine::Queries { exclusive } => run_queries(exclusive, out),
+    }
+}
+
+/// As many jobs as are asked for, or else one for each processor.
+fn jobs_of<R: Threads>(rt: &R, jobs: Option<u64>) -> usize {
+    match jobs {
+        Some(jobs) => usize::try_from(jobs).unwrap_or(usize::MAX),
+        None => processors(rt),
     }
 }
 

@@ -2,8 +2,9 @@
 //!
 //! - [`People`] are who is at the other end: [`complain`], [`report`] and [`show`] tell them what is wrong, [`Shown`] how
 //!   far a long run is, and [`Painted`] colors their answers. [`read`] reads a file, or standard input.
-//! - [`print_rows`], [`print_workload`], [`add_coverage`], [`merge_parts`], [`answer_lines`] and [`print_what_breaks`]
-//!   each do what a subcommand asks for, and [`read_tables`] reads tables with changed cells.
+//! - [`print_rows`], [`print_workload`], [`add_coverage`], [`answer_lines`] and [`print_what_breaks`] each do what a
+//!   subcommand asks for; [`read_tables`] reads tables with changed cells, and [`merged_parts`] puts parts of a walk
+//!   together.
 //! - [`tell_unused`] and [`tell_unforbidden`] say of a text that was run what its output doesn't.
 #![tactic(auto)]
 
@@ -11,7 +12,7 @@ pub use coverage::add_coverage;
 pub use files::{STANDARD_INPUT, read};
 pub use head::head_of;
 pub use painted::Painted;
-pub use parts::merge_parts;
+pub use parts::merged_parts;
 pub use people::{People, REFUSED, complain, report, show};
 pub use progress::{Counted, Shown};
 pub use prompt::answer_lines;

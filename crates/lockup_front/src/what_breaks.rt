@@ -109,13 +109,7 @@ fn searched<R: AllocGlobal + Eprint>(
 }
 
 /// Takes the steps of a trace. At Err, what is wrong was said, and this is the exit status.
-fn replayed<R>(
-    rt: &R,
-    people: People,
-    tables: &Tables,
-    cores: u64,
-    file: &str,
-) -> Result<Found, u8>
+fn replayed<R>(rt: &R, people: People, tables: &Tables, cores: u64, file: &str) -> Result<Found, u8>
 where
     R: Files + Input + AllocGlobal + Eprint,
 {
@@ -130,7 +124,11 @@ where
     };
     let cores = cores_of(&steps, cores);
     if let Some(number) = first_that_waits(tables, cores, &steps) {
-        complain(rt, people, format_args!("{file}: rule {number} can't happen under these tables"));
+        complain(
+            rt,
+            people,
+            format_args!("{file}: rule {number} can't happen under these tables"),
+        );
         return Err(REFUSED);
     }
     Ok(Found {

@@ -55,7 +55,11 @@ fn record(
     }
     record_sent(space, before, after, (step, Pick::Home(LINE)), row)?;
     if before.state != after.state {
-        space.enter(Participant::Directory(0), State::Directory(after.state), row)?;
+        space.enter(
+            Participant::Directory(0),
+            State::Directory(after.state),
+            row,
+        )?;
     }
     if changed {
         space.mark(actor, row, What::Said("changed cell"))?;
@@ -81,7 +85,13 @@ fn record_core(
     }
     for number in 0..after.count {
         let (line, to, from) = (LINE, core, CoreId(number));
-        record_sent(space, before, after, (step, Pick::Ack { line, to, from }), row)?;
+        record_sent(
+            space,
+            before,
+            after,
+            (step, Pick::Ack { line, to, from }),
+            row,
+        )?;
     }
     let state = after.side(core).state;
     if before.side(core).state != state {

@@ -74,7 +74,10 @@ pub(crate) fn blocked_by_change(
 fn blocked(met: Met) -> Met {
     match met {
         Met::Cache {
-            core, state, case, ..
+            core,
+            state,
+            case,
+            ..
         } => Met::Cache {
             core,
             state,

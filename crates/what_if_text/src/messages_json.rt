@@ -14,7 +14,10 @@ pub(crate) fn write_messages<W: Write>(line: &Line, out: &mut W) -> fmt::Result 
         comma = write_of_core(comma, core, &side, out)?;
     }
     if line.data_home.is_some() {
-        write!(out, "{comma}{{\"message\":\"Data home\",\"to\":\"directory\"}}")?;
+        write!(
+            out,
+            "{comma}{{\"message\":\"Data home\",\"to\":\"directory\"}}"
+        )?;
     }
     Ok(())
 }
@@ -29,7 +32,10 @@ fn write_of_core<W: Write>(
     let mut comma = first;
     if let Some(request) = side.request {
         let name = name_of_request(request.kind);
-        write!(out, "{comma}{{\"message\":\"{name}\",\"from\":{core},\"to\":\"directory\"}}")?;
+        write!(
+            out,
+            "{comma}{{\"message\":\"{name}\",\"from\":{core},\"to\":\"directory\"}}"
+        )?;
         comma = ",";
     }
     comma = write_forwarded(comma, core, side.front, out)?;
@@ -53,7 +59,10 @@ fn write_forwarded<W: Write>(
         return Ok(comma);
     };
     let name = name_of_forwarded(message.kind);
-    write!(out, "{comma}{{\"message\":\"{name}\",\"from\":\"directory\",\"to\":{core}")?;
+    write!(
+        out,
+        "{comma}{{\"message\":\"{name}\",\"from\":\"directory\",\"to\":{core}"
+    )?;
     if let Some(requester) = message.requester {
         write!(out, ",\"requester\":{}", requester.0)?;
     }
@@ -70,7 +79,10 @@ fn write_inv_acks<W: Write>(
     let mut comma = first;
     for sender in 0..64 {
         if side.acknowledgements.has(CoreId(sender)) {
-            write!(out, "{comma}{{\"message\":\"Inv-Ack\",\"from\":{sender},\"to\":{core}}}")?;
+            write!(
+                out,
+                "{comma}{{\"message\":\"Inv-Ack\",\"from\":{sender},\"to\":{core}}}"
+            )?;
             comma = ",";
         }
     }

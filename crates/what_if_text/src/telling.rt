@@ -59,11 +59,20 @@ fn write_tried<W: Write>(cores: u8, tried: Tried, out: &mut W) -> fmt::Result {
     } = tried;
     let cores = Line::new(cores).count;
     if all {
-        write!(out, "nothing broke in the {states} states of {cores} cores, by {steps} steps\n\nStates count once that differ only in which core is which. That all were seen isn't proved:")?;
+        write!(
+            out,
+            "nothing broke in the {states} states of {cores} cores, by {steps} steps\n\nStates count once that differ only in which core is which. That all were seen isn't proved:"
+        )?;
     } else {
-        write!(out, "nothing broke in {steps} steps, in {states} states and {rounds} rounds on {cores} cores\n\nThis proves nothing:")?;
+        write!(
+            out,
+            "nothing broke in {steps} steps, in {states} states and {rounds} rounds on {cores} cores\n\nThis proves nothing:"
+        )?;
     }
-    write!(out, " `lockup export murphi` writes a model that Rumur searches whole.\n")
+    write!(
+        out,
+        " `lockup export murphi` writes a model that Rumur searches whole.\n"
+    )
 }
 
 // The messages that wait for good where our tables would take them.

@@ -59,11 +59,7 @@ fn write_tried<W: Write>(cores: u8, tried: Tried, out: &mut W) -> fmt::Result {
 }
 
 // Writes the steps, and returns the line to which they lead.
-fn write_steps<W: Write>(
-    tables: &Tables,
-    told: Told<'_>,
-    out: &mut W,
-) -> Result<Line, fmt::Error> {
+fn write_steps<W: Write>(tables: &Tables, told: Told<'_>, out: &mut W) -> Result<Line, fmt::Error> {
     let mut line = Line::new(told.cores);
     let mut comma = "";
     for step in told.steps {

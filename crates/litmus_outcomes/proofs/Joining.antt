@@ -113,7 +113,7 @@ module _ (from : ℕ) (one other : List RowView) (more : RowView) where
     first = inr (
       none,
       Any-push (λ known. (known.values ≡ more.values) × ((from + more.first) % 2 ^ 64 ≡ (from + known.first) % 2 ^ 64)) other
-      more (refl, refl),
+          more (refl, refl),
     );
   }
 
@@ -168,8 +168,8 @@ module _ (from : ℕ) (one other : List RowView) (more : RowView) where
       let right = IsRowOfBoth from one other in
       let longer_right = IsRowOfBoth from one longer in
       let none : ¬ Has (one ++ other) more.values = λ (k, x, within, is, has).
-          lacks (subst (Has (front ++ back)) has (All-contains (λ (row : RowView). Has (front ++ back) row.values)
-          (one ++ other) x are.each_has (k, within, is))) in
+      lacks (subst (Has (front ++ back)) has (All-contains (λ (row : RowView). Has (front ++ back) row.values)
+      (one ++ other) x are.each_has (k, within, is))) in
       record {
         ascending = ascending_around front back here
             (record { around = ascending_parts front back are.ascending; below = below; above = above });
@@ -216,10 +216,10 @@ counted_one [] ascending k row within is = absurd (omega (arith, within))
 counted_one (first ∷ rows) ascending zero row within is =
     let above = above_first first rows ascending in
     let none : ¬ Has rows row.values = λ (j, other, below, at, has).
-        true≢false (sym (alike_itself row.values)
-        ∙ subst (λ (values : List ℕ). pointwise nat_eq row.values values ≡ false) (ap (λ (r : RowView). r.values) at ∙ has)
-        (subst (λ (values : List ℕ). pointwise nat_eq values (get_or rows j other).values ≡ false)
-        (ap (λ (r : RowView). r.values) is) (unlike first.values (get_or rows j other).values (above j other below)))) in
+    true≢false (sym (alike_itself row.values)
+    ∙ subst (λ (values : List ℕ). pointwise nat_eq row.values values ≡ false) (ap (λ (r : RowView). r.values) at ∙ has)
+    (subst (λ (values : List ℕ). pointwise nat_eq values (get_or rows j other).values ≡ false)
+    (ap (λ (r : RowView). r.values) is) (unlike first.values (get_or rows j other).values (above j other below)))) in
     omega (
       arith,
       sum_by-cons (λ (other : RowView). cond {A = ℕ} (pointwise nat_eq row.values other.values) other.rounds 0) first rows,
@@ -388,9 +388,9 @@ one_more rounds values old new is few counts =
     let more : RowView = record { values = values; rounds = 1; first = 0 } in
     let first : old.rounds ≡ (old.rounds + 0) % 2 ^ 64 = omega (arith, mod-eq_of_lt {n = old.rounds + 0} {m = 2 ^ 64} (omega (arith, few))) in
     let here : CountsAgain (counted_here old.rounds more) old.rows new.rows
-        ⊎ CountsFirst (counted_here old.rounds more) old.rows new.rows =
+    ⊎ CountsFirst (counted_here old.rounds more) old.rows new.rows =
     subst (λ n. CountsAgain (record { values = values; rounds = 1; first = n }) old.rows new.rows
-        ⊎ CountsFirst (record { values = values; rounds = 1; first = n }) old.rows new.rows) first counts.rows in
+    ⊎ CountsFirst (record { values = values; rounds = 1; first = n }) old.rows new.rows) first counts.rows in
     table_of_both old.rounds rounds (values ∷ []) old (record { rows = more ∷ []; rounds = 1 }) new is.count is
     (table_of_one values more refl refl refl) few (record {
       rows = joined old.rounds old.rows [] more old.rows new.rows here

@@ -74,12 +74,7 @@ impl Outcomes {
     }
 
     /// The same, where so many rounds more can be counted. Returns whether they can.
-    pub fn try_count(
-        &mut self,
-        values: &[u64],
-        rounds: u64,
-        first: u64,
-    ) -> Result<bool, AllocError>
+    pub fn try_count(&mut self, values: &[u64], rounds: u64, first: u64) -> Result<bool, AllocError>
         ensures counted { IfOk result (λ counted. IsTrue counted
             → Counts (record { values = values.now; rounds = rounds; first = first }) self.old self.new) }
         ensures full { IfOk result (λ counted. counted ≡ false

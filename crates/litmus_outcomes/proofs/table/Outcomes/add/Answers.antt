@@ -10,5 +10,5 @@ returns-clause-ok c =
     let rounds_are = ap (λ (table : TableView). table.rounds) c.count.view_is in
     on_ok_weaker c.count-2.result (λ counts rounds is. one_more rounds c.args.values.now _ _ is c.requires counts)
     (subst (λ first. OnOk c.count-2.result
-        (Counts (record { values = c.args.values.now; rounds = 1; first = first }) c.args.self.now c.count-2.new.self))
+    (Counts (record { values = c.args.values.now; rounds = 1; first = first }) c.args.self.now c.count-2.new.self))
     rounds_are c.count-2.ensures.ok)

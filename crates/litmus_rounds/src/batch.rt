@@ -97,7 +97,16 @@ fn walk_on<R: Threads + Sync, P: Progress>(
     while done < rounds {
         let batch = batch_of(rounds - done, jobs, share);
         let ended = walk_batch(
-            alloc, rt, batch, test, lines, named_requests, done, seed, most, outcomes,
+            alloc,
+            rt,
+            batch,
+            test,
+            lines,
+            named_requests,
+            done,
+            seed,
+            most,
+            outcomes,
         )?;
         if !ended.is_done() {
             return Ok(ended);
@@ -161,9 +170,7 @@ fn walk_batch<R: Threads + Sync>(
         outcomes.new) }
 {
     let from = seed.wrapping_add(done);
-    let stretches = walk_stretches(
-        alloc, rt, batch, test, lines, named_requests, from, most,
-    )?;
+    let stretches = walk_stretches(alloc, rt, batch, test, lines, named_requests, from, most)?;
     for place in 0..batch.jobs {
         let behind = done + place as u64 * batch.share;
         let ended = add_stretch(behind, &stretches[place], outcomes)?;

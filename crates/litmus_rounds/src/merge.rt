@@ -250,5 +250,13 @@ pub fn print_merged<W: Write>(
     ensures fault { IfErr result IsOfRun }
 {
     let outcomes = &merged.outcomes;
-    print_ended(test, outcomes, merged.ended, merged.seed, merged.most, form, out)
+    print_ended(
+        test,
+        outcomes,
+        merged.ended,
+        merged.seed,
+        merged.most,
+        form,
+        out,
+    )
 }

@@ -50,7 +50,15 @@ pub fn run_walk<R: Threads + Sync, W: Write, P: Progress>(
 {
     let mut outcomes = Outcomes::new(alloc);
     let ended = walk_batches(
-        alloc, rt, jobs, test, rounds, seed, most, progress, &mut outcomes,
+        alloc,
+        rt,
+        jobs,
+        test,
+        rounds,
+        seed,
+        most,
+        progress,
+        &mut outcomes,
     )?;
     print_ended(test, &outcomes, ended, seed, most, form, out)
 }

@@ -33,3 +33,11 @@ pub whole_text : (text front rest written : List ℕ) → pointwise nat_eq (take
 whole_text text front rest written same behind is =
     sym (take-append-drop (length front) text)
     ∙ ap₂ (λ (a b : List ℕ). a ++ b) ((bytes_decides (take (length front) text) front).0 same ∙ is) (sym behind)
+
+-- pieces that are added one behind another are added together
+pub four_pieces : (old a b c d one two three four : List ℕ) → one ≡ old ++ a → two ≡ one ++ b → three ≡ two ++ c
+    → four ≡ three ++ d → four ≡ old ++ (a ++ (b ++ (c ++ d)))
+four_pieces old a b c d one two three four first second third fourth =
+    fourth ∙ ap (λ (t : List ℕ). t ++ d) third ∙ append_assoc two c d
+    ∙ ap (λ (t : List ℕ). t ++ (c ++ d)) second ∙ append_assoc one b (c ++ d)
+    ∙ ap (λ (t : List ℕ). t ++ (b ++ (c ++ d))) first ∙ append_assoc old a (b ++ (c ++ d))

@@ -51,13 +51,13 @@ module _ (test : LitmusTest) (bound : Bound) (sum seed most : ℕ) where
               sym (get_or-append_seam parts part [] d) ∙ ap (λ i. get_or all i d) (sym at) in
               let before : parts ≡ take k all = sym (take-append_seam parts (part ∷ [])) ∙ ap (λ i. take i all) (sym at) in
               subst (λ front. Says front (get_or all k d)) before (subst (Says parts) here (record {
-                sum = says.sum;
-                most = says.most;
-                seed = says.seed ∙ ap (seed_of seed) (sym are.counted);
-                count = refl;
+                of_test = says.of_test;
+                limited = says.limited;
+                begins = says.begins ∙ ap (seed_of seed) (sym are.counted);
+                many = refl;
               }))
         ];
-    counted = omega (arith, sum_by_push (λ (part : Part). part.count) parts part, are.counted, says.count);
+    counted = omega (arith, sum_by_push (λ (part : Part). part.count) parts part, are.counted, says.many);
   }
 
   pub printed_next : (count more : ℕ) (part : Part) (a b c : Option (List ℕ))

@@ -14,10 +14,10 @@ IsPartOf test bound part = HaveEnded test bound part.seed part.most part.count p
 
 -- what its first line says
 pub record IsPartWith (sum most seed count : ℕ) (part : Part) : Type 0 where
-  pub sum : part.sum ≡ sum
-  pub most : part.most ≡ most
-  pub seed : part.seed ≡ seed
-  pub count : part.count ≡ count
+  pub of_test : part.sum ≡ sum
+  pub limited : part.most ≡ most
+  pub begins : part.seed ≡ seed
+  pub many : part.count ≡ count
 
 -- how many rounds parts have
 abbrev pub count_of_parts : List Part → ℕ

@@ -1,4 +1,5 @@
-use Rattle.std.proofs.Common.{◌∙◌}
+use Rattle.std.proofs.Common.{◌++◌, ◌∙◌, ap, List, ℕ}
+use Rattle.litmus_parts.specs.Form.{text_of_parts}
 use Rattle.litmus_parts.proofs.PieceLemmas.{whole_text}
 use Rattle.litmus_parts.proofs.read.text_behind.Goals as goal
 
@@ -6,4 +7,5 @@ pub returns-in-Some : goal.returns-in-Some
 returns-in-Some c =
     let (same, behind, long) = c.in-Some.ensures.cases in
     whole_text c.args.text.now c.as_slice.result.now c.in-Some.rest.now _ same behind
-    (c.as_slice.ensures.value ∙ c.in_ok-push_parts.ensures)
+    (c.as_slice.ensures.value ∙ c.in_ok-push_parts.ensures
+    ∙ ap (λ (t : List ℕ). t ++ text_of_parts c.args.parts.now) c.new-written.ensures.items)

@@ -5,6 +5,7 @@ use super::people::{People, REFUSED, complain, report};
 use super::table_files::read_tables;
 use super::what_drawn::diagram_of;
 use super::what_page::write_page;
+use address_map::CoreId;
 use changed_tables::Tables;
 use litmus_chart::write_drawing;
 use litmus_command_line::{TableFiles, WhatIfForm};
@@ -117,7 +118,7 @@ where
         Ok(text) => text,
         Err(error) => return Err(report(rt, people, &error, format_args!("cannot read {file}"))),
     };
-    let steps = match steps_of(rt, &text) {
+    let mut steps = match steps_of(rt, &text) {
         Ok(steps) if steps.is_empty() => return Err(failed(rt, people, LineFault::NotATrace.at(1))),
         Ok(steps) => steps,
         Err(fault) => return Err(failed(rt, people, fault)),
@@ -131,12 +132,56 @@ where
         );
         return Err(REFUSED);
     }
+    if let Err(error) = add_last(tables, cores, &mut steps) {
+        return Err(failed(rt, people, error));
+    }
     Ok(Found {
         broken: replay(tables, cores, &steps),
         cores,
         steps,
         tried: None,
     })
+}
+
+// The model's rule for a message without a row doesn't say which message that is: it is the first that breaks a promise.
+fn add_last(tables: &Tables, cores: u8, steps: &mut Vec<Step>) -> Result<(), TextFault> {
+    let mut line = Line::new(cores);
+    for step in steps.iter() {
+        let _ = line.step(tables, *step);
+    }
+    if line.fault.is_none() && line.judge(tables).is_none() {
+        if let Some(last) = first_that_breaks(tables, &line) {
+            steps.push(last)?;
+        }
+    }
+    Ok(())
+}
+
+fn first_that_breaks(tables: &Tables, line: &Line) -> Option<Step> {
+    for number in 0..line.count {
+        let core = CoreId(number);
+        for step in [
+            Step::TakeRequest(core),
+            Step::TakeForwarded(core),
+            Step::TakeData(core),
+        ] {
+            if breaks(tables, line, step) {
+                return Some(step);
+            }
+        }
+        for from in 0..line.count {
+            let sender = CoreId(from);
+            if breaks(tables, line, Step::TakeInvAck { core, sender }) {
+                return Some(Step::TakeInvAck { core, sender });
+            }
+        }
+    }
+    breaks(tables, line, Step::TakeHome).then_some(Step::TakeHome)
+}
+
+fn breaks(tables: &Tables, line: &Line, step: Step) -> bool {
+    let mut after = *line;
+    after.step(tables, step).is_err()
 }
 
 fn steps_of<R: AllocGlobal>(rt: &R, trace: &[u8]) -> Result<Vec<Step>, TextFault> {

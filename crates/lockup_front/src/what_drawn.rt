@@ -38,6 +38,14 @@ const fn caption_of(broken: Option<Promise>) -> &'static str {
     }
 }
 
+/// A step of a run: the row in which it is drawn, who takes it, and the channel whose first message it takes.
+#[derive(Clone, Copy)]
+struct Drawn {
+    row: usize,
+    by: Option<CoreId>,
+    taken: Option<Pick>,
+}
+
 fn record(
     space: &mut SpaceTime,
     before: &Line,
@@ -45,24 +53,24 @@ fn record(
     step: Step,
     changed: bool,
 ) -> Result<(), TextFault> {
-    let row = space.begin_row(command_of(step))?;
-    let actor = actor_of(step);
-    if let Some(pick) = taken_by(step) {
-        space.take(pick, message_in(before, pick), row);
+    let drawn = Drawn {
+        row: space.begin_row(command_of(step))?,
+        by: core_of(step),
+        taken: taken_by(step, after),
+    };
+    if let Some(pick) = drawn.taken {
+        space.take(pick, message_in(before, pick), drawn.row);
     }
     for core in 0..after.count {
-        record_core(space, before, after, (step, CoreId(core)), row)?;
+        record_core(space, before, after, drawn, CoreId(core))?;
     }
-    record_sent(space, before, after, (step, Pick::Home(LINE)), row)?;
+    record_sent(space, before, after, drawn, Pick::Home(LINE))?;
     if before.state != after.state {
-        space.enter(
-            Participant::Directory(0),
-            State::Directory(after.state),
-            row,
-        )?;
+        let state = State::Directory(after.state);
+        space.enter(Participant::Directory(0), state, drawn.row)?;
     }
     if changed {
-        space.mark(actor, row, What::Said("changed cell"))?;
+        space.mark(actor_of(step), drawn.row, What::Said("changed cell"))?;
     }
     Ok(())
 }
@@ -72,30 +80,23 @@ fn record_core(
     space: &mut SpaceTime,
     before: &Line,
     after: &Line,
-    at: (Step, CoreId),
-    row: usize,
+    drawn: Drawn,
+    core: CoreId,
 ) -> Result<(), TextFault> {
-    let (step, core) = at;
     for pick in [
         Pick::Req(LINE, core),
         Pick::Fwd(LINE, core),
         Pick::Data(LINE, core),
     ] {
-        record_sent(space, before, after, (step, pick), row)?;
+        record_sent(space, before, after, drawn, pick)?;
     }
     for number in 0..after.count {
         let (line, to, from) = (LINE, core, CoreId(number));
-        record_sent(
-            space,
-            before,
-            after,
-            (step, Pick::Ack { line, to, from }),
-            row,
-        )?;
+        record_sent(space, before, after, drawn, Pick::Ack { line, to, from })?;
     }
     let state = after.side(core).state;
     if before.side(core).state != state {
-        space.enter(Participant::Core(core), State::Copy(state), row)?;
+        space.enter(Participant::Core(core), State::Copy(state), drawn.row)?;
     }
     Ok(())
 }
@@ -105,14 +106,13 @@ fn record_sent(
     space: &mut SpaceTime,
     before: &Line,
     after: &Line,
-    at: (Step, Pick),
-    row: usize,
+    drawn: Drawn,
+    pick: Pick,
 ) -> Result<(), TextFault> {
-    let (step, pick) = at;
-    let taken = u8::from(taken_by(step) == Some(pick));
+    let taken = u8::from(drawn.taken == Some(pick));
     let left = count_in(before, pick).saturating_sub(taken);
     for _ in left..count_in(after, pick) {
-        space.send(pick, sender(0, pick, core_of(step)), row)?;
+        space.send(pick, sender(0, pick, drawn.by), drawn.row)?;
     }
     Ok(())
 }
@@ -241,10 +241,10 @@ fn access(core: CoreId, op: Op) -> Command {
     }
 }
 
-// The channel whose first message a step takes.
-fn taken_by(step: Step) -> Option<Pick> {
+// The channel whose first message a step takes. One without a row stays there.
+fn taken_by(step: Step, after: &Line) -> Option<Pick> {
     match command_of(step) {
-        Command::Deliver(pick) => Some(pick),
+        Command::Deliver(pick) if after.fault != Some(Promise::HasRow) => Some(pick),
         _ => None,
     }
 }

@@ -7,16 +7,30 @@ use thiserror::Error;
 #[derive(Clone, Copy, Debug, PartialEq, Eq, Error)]
 pub enum PartFault {
     #[error("line {line}: not a line of a part")]
-    NotAPart { file: usize, line: u64 },
+    NotAPart {
+        file: usize,
+        line: u64,
+    },
     #[error("line {line}: a part in another format")]
-    OtherFormat { file: usize, line: u64 },
+    OtherFormat {
+        file: usize,
+        line: u64,
+    },
     #[error("line {line}: a part of another version of lockup")]
-    OtherVersion { file: usize, line: u64 },
+    OtherVersion {
+        file: usize,
+        line: u64,
+    },
     #[error("line {line}: a part of another test")]
-    OtherTest { file: usize, line: u64 },
+    OtherTest {
+        file: usize,
+        line: u64,
+    },
     /// A part isn't written as this program writes it.
     #[error("a part was changed")]
-    Changed { file: usize },
+    Changed {
+        file: usize,
+    },
     #[error("seed {seed}: walked with another limit than seed {first} in")]
     OtherLimit {
         file: usize,

@@ -32,12 +32,7 @@ struct Reader {
 }
 
 /// Reads the parts of a text, which are all of the test of this sum. The last one may be cut off at the end.
-pub fn read_parts(
-    alloc: Global,
-    sum: u64,
-    file: usize,
-    text: &[u8],
-) -> Result<Found, PartFault>
+pub fn read_parts(alloc: Global, sum: u64, file: usize, text: &[u8]) -> Result<Found, PartFault>
     // What is read is spelled so, up to a part that is cut off.
     ensures read { IfOk result (λ found. (rest : List ℕ) × (text.now ≡ text_of_parts found.parts.items ++ rest)
         × (found.is_cut ≡ false → rest ≡ [])) }
@@ -165,20 +160,7 @@ impl Reader {
     // Reads the first line of a part.
     fn head(&self, line: u64, words: &[&[u8]]) -> Result<Part, PartFault> {
         let file = self.file;
-        let [
-            name,
-            format,
-            version,
-            _,
-            sum,
-            _,
-            limit,
-            _,
-            seed,
-            _,
-            rounds,
-        ] = words
-        else {
+        let [name, format, version, _, sum, _, limit, _, seed, _, rounds] = words else {
             return Err(self.no_part(line));
         };
         if !is_same(name, b"lockup-part") {
@@ -260,8 +242,7 @@ fn add_outcome(alloc: Global, part: &mut Part, words: &[&[u8]]) -> Result<bool, 
         return Ok(false);
     }
     let first = seed.wrapping_sub(part.seed);
-    part.outcomes
-        .try_count(numbers.as_slice(), rounds, first)
+    part.outcomes.try_count(numbers.as_slice(), rounds, first)
 }
 
 fn push_numbers(numbers: &mut Vec<u64>, words: &[&[u8]]) -> Result<bool, AllocError> {

@@ -1,7 +1,9 @@
 -- One more part is printed.
 use Rattle.std.proofs.Common.{◌≡◌, ◌+◌, ◌<◌, ℕ, List, [], ◌∷◌, ◌++◌, ap, arith, inl, inr, length, length-append, refl, subst, sym}
 use Rattle.std.proofs.Common.{get_or, take, ◌∙◌}
-use Rattle.std.specs.Prelude.{Option, sum_by, All}
+use Rattle.std.specs.Prelude.{◌≢◌, ◌≤◌, Option}
+use Rattle.std.proofs.lemmas.List.Quantifiers.{Any-push}
+use Rattle.litmus_outcomes.specs.declared.ended.Ended.TheVariants as ended_kinds
 use Rattle.std.specs.Io.KnownBytes.{Appends}
 use Rattle.std.proofs.KnownBytes.{Appends-nil, Appends-trans}
 use Rattle.std.proofs.Math.ListN.{get_or-append}
@@ -13,7 +15,7 @@ use Rattle.std.proofs.lemmas.List.Elements.{All-nil, All-push}
 use Rattle.std.proofs.lemmas.List.Sums.{sum_by_push}
 use Rattle.litmus_parts.specs.Form.{text_of_part, text_of_parts}
 use Rattle.litmus_parts.specs.declared.part.Part.{Part}
-use Rattle.litmus_rounds.specs.Parts.{ArePrinted, AreParts, IsPartOf, IsPartWith, count_of_parts}
+use Rattle.litmus_rounds.specs.Parts.{ArePrinted, AreParts, IsPartOf, IsPartWith, PrintsParts, count_of_parts}
 use Rattle.litmus_rounds.specs.Run.{seed_of}
 use Rattle.litmus_test.specs.declared.test.LitmusTest.{LitmusTest}
 use Rattle.mshr_file.specs.Miss.{Bound}
@@ -71,4 +73,17 @@ module _ (test : LitmusTest) (bound : Bound) (sum seed most : ℕ) where
         (sym (flat_map-append text_of_part some.parts (part ∷ [])
         ∙ ap (λ (t : List ℕ). text_of_parts some.parts ++ t) (append-nil (text_of_part part))))
         (Appends-trans a b c (text_of_parts some.parts) (text_of_part part) some.printed printed);
+  }
+
+  -- a part with a round that has no outcome is the last
+  pub printed_last : (count more all : ℕ) (part : Part) (a b c : Option (List ℕ))
+      → ArePrinted test bound sum count seed most a b → IsPartOf test bound part
+      → IsPartWith sum most (seed_of seed count) more part → Appends b c (text_of_part part)
+      → part.ended ≢ ended_kinds.Done → count + more ≤ all → PrintsParts test bound sum all seed most a c
+  unfolding printed_next
+  printed_last count more all part a b c some is says printed not_done within = record {
+    done = count + more;
+    within = within;
+    printed = printed_next count more part a b c some is says printed;
+    whole = inr (Any-push (λ (part : Part). part.ended ≢ ended_kinds.Done) some.parts part not_done);
   }

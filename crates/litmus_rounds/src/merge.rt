@@ -1,6 +1,6 @@
 //! Parts put together: the table of all their rounds, each counted once.
 ghost use Rattle.std.specs.Prelude.{◌≡◌, ◌+◌, ◌≤◌, ◌<◌, ◌^◌, List, [], ◌∷◌, ◌++◌, All, IfErr, IfOk, IsTrue, OnOk};
-ghost use Rattle.std.specs.Prelude.{map};
+ghost use Rattle.std.specs.Prelude.{IsPermutation, map};
 ghost use Rattle.litmus_outcomes.specs.Ended.{round_of};
 ghost use Rattle.litmus_parts.specs.declared.part.Part.{Part};
 ghost use Rattle.litmus_rounds.specs.Merge.{AddsRounds, IsMergeOf, MayFollow, MissesTo};
@@ -67,9 +67,7 @@ impl Parts {
             → All (λ filed. IsPartOf test bound filed.part) self.old.filed.items
             → HaveEnded test bound merged.seed merged.most merged.count merged.outcomes merged.ended) }
     {
-        self.filed
-            .as_mut_slice()
-            .sort_by_key(self.alloc, |filed: &Filed| filed.part.seed)?;
+        sort(self.alloc, &mut self.filed)?;
         let mut merged = merge_sorted(self.alloc, self.filed.as_slice())?;
         merged.miss_behind(self.cut.as_slice())?;
         Ok(merged)
@@ -209,6 +207,15 @@ fn end_of(seed: u64, count: u64, cut: &[Gap]) -> u64
         }
     }
     end
+}
+
+// Puts parts in the order of their seeds.
+fn sort(alloc: Global, filed: &mut Vec<Filed>) -> Result<(), AllocError>
+    ensures { OnOk result (IsPermutation filed.old.items filed.new.items) }
+{
+    filed
+        .as_mut_slice()
+        .sort_by_key(alloc, |filed: &Filed| filed.part.seed)
 }
 
 // Puts parts together that are in order.

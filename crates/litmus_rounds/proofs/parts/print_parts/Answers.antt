@@ -1,10 +1,6 @@
-use Rattle.std.proofs.Common.{◌≡◌, arith, inl, inr, refl, subst, sym}
-use Rattle.std.specs.Prelude.{◌≢◌}
-use Rattle.std.proofs.lemmas.List.Quantifiers.{Any-push}
-use Rattle.litmus_outcomes.specs.declared.ended.Ended.TheVariants as ended_kinds
-use Rattle.litmus_parts.specs.declared.part.Part.{Part}
+use Rattle.std.proofs.Common.{arith, inl, sym}
 use Rattle.litmus_script.specs.Machine.{bound_of}
-use Rattle.litmus_rounds.proofs.PartLemmas.{printed_next, printed_none}
+use Rattle.litmus_rounds.proofs.PartLemmas.{printed_last, printed_next, printed_none}
 use Rattle.litmus_rounds.proofs.parts.print_parts.Goals as goal
 use mathlib.Core.Bool.{true≢false}
 use Rattle.std.proofs.Common.{◌∙◌}
@@ -27,16 +23,10 @@ loop-done-preserved g c = record {
 -- a part with a round that has no outcome is the last
 pub returns-then-not-is_done-clause-printed : goal.returns-then-not-is_done-clause-printed
 returns-then-not-is_done-clause-printed g c =
-    let printed = printed_next c.args.test.now (bound_of c.args.test.now.misses c.args.test.now.config) c.args.sum
-    c.args.seed c.args.most c.loop-done.done _ c.in_ok-part.part _ _ _ c.loop-done.invariant.printed
-    c.in_ok-part.ensures.walked c.in_ok-part.ensures.with c.in_ok-print_part.ensures.printed in
-    record {
-      done = _;
-      within = omega arith;
-      printed = printed;
-      whole = inr (Any-push (λ (part : Part). part.ended ≢ ended_kinds.Done) c.loop-done.invariant.printed.parts
-          c.in_ok-part.part (λ is. true≢false (sym (c.is_done.ensures.1 is) ∙ c.if-not-is_done.true)));
-    }
+    printed_last c.args.test.now (bound_of c.args.test.now.misses c.args.test.now.config) c.args.sum c.args.seed
+    c.args.most c.loop-done.done _ c.args.rounds c.in_ok-part.part _ _ _ c.loop-done.invariant.printed
+    c.in_ok-part.ensures.walked c.in_ok-part.ensures.with c.in_ok-print_part.ensures.printed
+    (λ is. true≢false (sym (c.is_done.ensures.1 is) ∙ c.if-not-is_done.true)) (omega arith)
 
 pub returns-clause-printed : goal.returns-clause-printed
 returns-clause-printed g c = record {

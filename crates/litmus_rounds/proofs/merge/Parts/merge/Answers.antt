@@ -1,4 +1,4 @@
-use Rattle.std.specs.Prelude.{All}
+use Rattle.std.proofs.Common.{IsPermutation, subst, sym}
 use Rattle.std.proofs.lemmas.List.Elements.{All-map}
 use Rattle.std.proofs.lemmas.List.Sorted.{All-permutation}
 use Rattle.litmus_parts.specs.declared.part.Part.{Part}
@@ -11,4 +11,5 @@ returns c = λ gapless test bound all.
     let part : Filed → Part = λ filed. filed.part in
     let Is : Filed → Type 0 = λ filed. IsPartOf test bound filed.part in
     c.in_ok-miss_behind.ensures _ c.in_ok-merged.ensures gapless test bound
-    (All-map (IsPartOf test bound) part _ (All-permutation Is _ _ ? all))
+    (All-map (IsPartOf test bound) part _ (All-permutation Is _ _
+    (subst (IsPermutation c.args.self.now.filed.items) (sym c.as_slice.ensures.value) c.in_ok-sort.ensures) all))

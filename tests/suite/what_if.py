@@ -212,7 +212,7 @@ HAPPENED = re.compile(r"(core|dir) (\d+) \((\w+), (Data home|[\w-]+)[^)]*(?:\(\d
 def drawn_script(draw: random.Random, cores: int, exclusive: bool) -> str:
     """Draws commands of a script on one line; most of them do nothing."""
     lines = [f"cores {cores}"] + (["exclusive on"] if exclusive else [])
-    for _ in range(600):
+    for _ in range(2000):
         core, other, tag = draw.randrange(cores), draw.randrange(cores), draw.randrange(64)
         asked = [f"issue {core} {tag} load 0", f"issue {core} {tag} add 0 1", f"evict {core} 0", f"hand {core} 0", f"hand {core} 0"]
         taken = [f"deliver {it}" for it in (f"req 0 {core}", f"fwd 0 {core}", f"data 0 {core}", f"ack 0 {core} {other}", "home 0")]

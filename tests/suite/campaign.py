@@ -102,7 +102,7 @@ def test_refusals() -> None:
     with tempfile.TemporaryDirectory() as room:
         first, second = part(room, 1, 100), part(room, 101, 100)
         other = write(f"{room}/other", walk(101, 100, "--part", test=OTHER))
-        refused([first, other], str(other), "another test")
+        refused([first, other], str(other), "another litmus text")
         limited = write(f"{room}/limited", walk(101, 100, "--part", "--limit", "1000"))
         refused([first, limited], str(limited), str(first), "limit")
         twice = write(f"{room}/twice", walk(150, 10, "--part"))

@@ -21,7 +21,7 @@ pub enum PartFault {
         file: usize,
         line: u64,
     },
-    #[error("line {line}: a part of another test")]
+    #[error("line {line}: a part of another litmus text")]
     OtherTest {
         file: usize,
         line: u64,

@@ -2,8 +2,8 @@ use Rattle.std.proofs.Common.{inl, inr, refl, sym, ◌∙◌}
 use Rattle.litmus_rounds.proofs.RoundLemmas.{told_none, told_some}
 use Rattle.litmus_rounds.proofs.run.print_ended.Goals as goal
 
-pub returns-in-Stuck-clause-printed : goal.returns-in-Stuck-clause-printed
-returns-in-Stuck-clause-printed g c = λ bound count have.
+pub returns-in_ok-print_stuck-in-Stuck-clause-printed : goal.returns-in_ok-print_stuck-in-Stuck-clause-printed
+returns-in_ok-print_stuck-in-Stuck-clause-printed g c = λ bound count have.
     let (below, others, stuck) = rw c.in-Stuck.is at have in
     inr (inl (record {
       round = c.in-Stuck.round;
@@ -15,8 +15,8 @@ returns-in-Stuck-clause-printed g c = λ bound count have.
       told = refl;
     }))
 
-pub returns-in-GaveUp-clause-printed : goal.returns-in-GaveUp-clause-printed
-returns-in-GaveUp-clause-printed g c = λ bound count have.
+pub returns-in_ok-print_gave_up-in-GaveUp-clause-printed : goal.returns-in_ok-print_gave_up-in-GaveUp-clause-printed
+returns-in_ok-print_gave_up-in-GaveUp-clause-printed g c = λ bound count have.
     let (below, others, given_up) = rw c.in-GaveUp.is at have in
     inr (inr (record {
       round = c.in-GaveUp.round;
@@ -39,8 +39,8 @@ returns-then-forbidden-eq0-clause-printed g c = λ bound count have.
       told = told_none _ (sym counted ∙ c.if-forbidden-eq0.true);
     })
 
-pub returns-clause-printed : goal.returns-clause-printed
-returns-clause-printed g c = λ bound count have.
+pub returns-else-forbidden-eq0-clause-printed : goal.returns-else-forbidden-eq0-clause-printed
+returns-else-forbidden-eq0-clause-printed g c = λ bound count have.
     let are = rw c.in-Done.is at have in
     let counted = c.forbidden.ensures are.rounds are.table_of in
     inl (record {

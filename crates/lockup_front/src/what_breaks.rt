@@ -13,6 +13,8 @@ use litmus_script::TextWriter;
 use litmus_text::{LineFault, Lines, TextFault};
 use murphi_trace::{Rule, rule_told_by};
 use slice_queues_message::Pick;
+use std::alloc::Global;
+use std::fmt;
 use std::io::{self, BufWriter, Write};
 use std::rt::Files;
 use what_if::{Answer, Effort, Line, Promise, Step, Tried, replay, what_if};
@@ -62,7 +64,7 @@ where
         None => searched(rt, people, &tables, play),
     };
     match found {
-        Ok(found) => end(rt, people, print(rt, people, &tables, &found, play.form)),
+        Ok(found) => end(rt, people, print(rt, &tables, &found, play.form)),
         Err(status) => status,
     }
 }
@@ -240,9 +242,8 @@ fn first_that_waits(tables: &Tables, cores: u8, steps: &[Step]) -> Option<usize>
     None
 }
 
-fn print<R: AllocGlobal + Print + Eprint>(
+fn print<R: AllocGlobal + Print>(
     rt: &R,
-    people: People,
     tables: &Tables,
     found: &Found,
     form: WhatIfForm,
@@ -250,28 +251,40 @@ fn print<R: AllocGlobal + Print + Eprint>(
     let Ok(mut out) = BufWriter::new(rt.alloc(), io::writer(rt)) else {
         return Err(TextFault::NoMemory);
     };
-    let mut text = TextWriter { out: &mut out };
     let told = Told {
         cores: found.cores,
         steps: &found.steps,
         broken: found.broken,
         tried: found.tried,
     };
-    let written = match form {
-        WhatIfForm::Text => write_told(rt.alloc(), tables, told, &mut text),
-        WhatIfForm::Json => write_told_json(rt.alloc(), tables, told, &mut text),
-        WhatIfForm::Svg => write_drawing(&diagram_of(rt.alloc(), tables, told)?, &mut text),
-        WhatIfForm::Page => write_page(
-            rt.alloc(),
-            &diagram_of(rt.alloc(), tables, told)?,
-            tables,
-            told,
-            &mut text,
-        ),
-    };
+    let mut text = TextWriter { out: &mut out };
+    let written = write_found(rt.alloc(), tables, told, form, &mut text);
     match (written, out.flush()) {
         (Ok(()), Ok(())) => Ok(status_of(found)),
-        _ => Err(TextFault::CannotWrite),
+        (Err(fault), _) => Err(fault),
+        (Ok(()), Err(_)) => Err(TextFault::CannotWrite),
+    }
+}
+
+fn write_found<W: fmt::Write>(
+    alloc: Global,
+    tables: &Tables,
+    told: Told<'_>,
+    form: WhatIfForm,
+    out: &mut W,
+) -> Result<(), TextFault> {
+    let written = match form {
+        WhatIfForm::Text => write_told(alloc, tables, told, out),
+        WhatIfForm::Json => write_told_json(alloc, tables, told, out),
+        WhatIfForm::Svg => write_drawing(&diagram_of(alloc, tables, told)?, out),
+        WhatIfForm::Page => {
+            let space = diagram_of(alloc, tables, told)?;
+            write_page(alloc, &space, tables, told, out)
+        }
+    };
+    match written {
+        Ok(()) => Ok(()),
+        Err(_) => Err(TextFault::CannotWrite),
     }
 }
 

@@ -40,11 +40,11 @@ pub fn write_page<W: Write>(
 
 // No word of the text has an ampersand.
 fn write_escaped<W: Write>(text: &str, out: &mut W) -> fmt::Result {
-    let mut escape = "";
-    for part in text.split('<') {
-        out.write_str(escape)?;
-        out.write_str(part)?;
-        escape = "&lt;";
+    for letter in text.chars() {
+        match letter {
+            '<' => out.write_str("&lt;")?,
+            _ => out.write_char(letter)?,
+        }
     }
     Ok(())
 }

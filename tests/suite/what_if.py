@@ -36,8 +36,6 @@ GALLERY = [
     ("writer_that_does_not_wait", ONE_WRITER, NEWEST, ROW),
 ]
 HARMLESS = ["late_put_in_m", "readers_that_never_ask"]
-# found with three cores alone
-NEED_THREE: list[str] = []
 ALL = re.compile(r"nothing broke in the (\d+) states of (\d+) cores, by (\d+) steps\n")
 NOTHING = re.compile(r"nothing broke in (\d+) steps, in (\d+) states and (\d+) rounds on (\d+) cores\n")
 # states of our tables that Rumur finds in the model, in which each core is another one (tests/suite/murphi.py)
@@ -135,7 +133,7 @@ def test_our_tables(_: str, cores: int, exclusive: str) -> None:
 def test_what_rumur_finds(name: str, *promises: str) -> None:
     """The run that Rumur prints of an error in the model of the changed tables breaks a promise under them, at its end."""
     file = FOLDER / f"{name}.txt"
-    model = lockup("export", "murphi", "--cores", "2" if name not in NEED_THREE else "3", option_of(read(file)), file).out
+    model = lockup("export", "murphi", "--cores", "2", option_of(read(file)), file).out
     found = searched(model, trace=True)
     want(found.status, f"no error: {found.said[-500:]}")
     with tempfile.TemporaryDirectory() as room:
@@ -151,9 +149,8 @@ def test_what_rumur_finds(name: str, *promises: str) -> None:
 
 def test_what_can_not_be_replayed() -> None:
     trace = 'Rule "I, load: GetS; IS_D", c: 0 fired.\nRule "I, load: GetS; IS_D", c: 0 fired.\n'
-    for text, said in ((trace, "-: rule 2 can't happen under these tables"), ("no rule\n", "line 1: this is no trace of the model")):
-        ran = lockup("what-if", "--from-murphi", "-", text=text)
-        want((ran.status, ran.out) == (2, "") and said.split(":")[0] in ran.err, f"{ran} isn't {said}")
+    for text, said in ((trace, "-: rule 2 can't happen under these tables"), ("no rule\n", "line 1: not a trace")):
+        same(said, (2, "", f"lockup: {said}\n"), tuple(lockup("what-if", "--from-murphi", "-", text=text)))
     ran = lockup("what-if", "--from-murphi", "-", text=trace.splitlines(keepends=True)[0])
     want(ran.status == 0 and ran.out.startswith("nothing broke in these 1 steps\n"), ran.out)
 

@@ -1,13 +1,12 @@
 """Walks side by side and in parts: whatever the number of jobs, and however rounds are shared out and put together again,
-what is printed is what one walk of all rounds prints, byte for byte.
+what is printed is what one walk of all rounds prints, byte for byte. So it is of a walk that goes on behind the parts it left.
 
 Parts are of stretches of seeds, also shuffled, one file or many. What can't be merged is refused by the file's name and the
 reason: parts of another test, another limit, another version, a round that is counted twice, a changed part. A part that is
 cut off, at whichever byte, and what a killed worker left, are told as the rounds that are missing; walked again they
-complete the table. examples/campaign/run-parallel runs where `parallel` is installed, with two workers killed on the way, and
-run-slurm where a cluster of one node can be started.
+complete the table. `campaign_scripts` runs examples/campaign.
 """
-import os
+import math
 import random
 import signal
 import subprocess
@@ -15,13 +14,12 @@ import tempfile
 import time
 from pathlib import Path
 
-from harness import ROOT, Skipped, each, lockup, needs, program, read, run, same, seconds, want, write
+from harness import ROOT, each, lockup, program, read, same, seconds, want, write
 
 TEST = ROOT / "examples/litmus/sb.txt"
 OTHER = ROOT / "examples/litmus/mp.txt"
-EXAMPLES = ROOT / "examples/campaign"
-# `merge` is to add up 10,000 parts in a second on a machine that does nothing else
-FEW_SECONDS = 5
+# in which `merge` adds up 10,000 parts that are in memory
+FEW_SECONDS = 1
 UNFORBIDDEN = "lockup: nothing is forbidden: the test has no line 'forbid'\n"
 
 
@@ -170,6 +168,42 @@ def test_a_killed_worker() -> None:
         same("put together", (walk(1, done + 5000), ""), merged([left, again]))
 
 
+@seconds(60)
+def test_a_walk_goes_on() -> None:
+    """Behind the whole parts of what was left, a walk prints what it would have printed at once."""
+    rounds = 100_300
+    with tempfile.TemporaryDirectory() as room:
+        wanted = walk(7, rounds, "--part", jobs=4)
+        second = wanted.index("lockup-part", 1)
+        for length in (0, second - 1, second, second + 1, len(wanted) - 1, len(wanted)):
+            left = write(f"{room}/left", wanted[:length])
+            same(f"behind {length} bytes", wanted, walk(7, rounds, "--resume", str(left), jobs=4))
+
+
+def test_what_is_known_is_not_walked() -> None:
+    """A part that is known is printed as it stands, here one with counts that were made up."""
+    with tempfile.TemporaryDirectory() as room:
+        known = made(1, 100_000)
+        text = walk(1, 100_050, "--part", "--resume", str(write(f"{room}/known", known)))
+        same("as it stands", known, text[: len(known)])
+        same("behind it", walk(100_001, 50, "--part"), text[len(known) :])
+
+
+def test_parts_of_other_rounds() -> None:
+    """A walk goes on behind its own first parts alone."""
+    with tempfile.TemporaryDirectory() as room:
+        for name, text in (("seed", made(2, 100_000)), ("count", made(1, 100)), ("more", made(1, 100_000) + made(100_001, 100_000)),
+                           ("limit", made(1, 100_000).replace("limit none", "limit 1000"))):
+            left = write(f"{room}/{name}", text)
+            ran = lockup("walk", TEST, "--rounds", "150000", "--resume", left)
+            same(name, (2, "", f"lockup: {left}: its parts are not the first of these rounds\n"), (ran.status, ran.out, ran.err))
+        other = write(f"{room}/other", walk(1, 10, "--part", test=OTHER))
+        ran = lockup("walk", TEST, "--resume", other)
+        same("test", (2, "", f"lockup: {other}: line 1: a part of another litmus text\n"), (ran.status, ran.out, ran.err))
+        ran = lockup("walk", TEST, "--resume", f"{room}/none")
+        same("no file", (2, "", f"lockup: cannot read {room}/none\n"), (ran.status, ran.out, ran.err))
+
+
 def fnv_1a(text: bytes) -> int:
     """The 64-bit FNV-1a hash, as its authors define it."""
     came = 0xCBF29CE484222325
@@ -178,11 +212,11 @@ def fnv_1a(text: bytes) -> int:
     return came
 
 
-def made(seed: int) -> str:
-    """Returns the part of 100 rounds of which 60 have one outcome and 40 another, written by hand."""
-    version = lockup("--version").out.split()[-1]
-    return (f"lockup-part 1 {version} test {fnv_1a(TEST.read_bytes())} limit none seed {seed} rounds 100\n"
-            f"outcome 60 seed {seed} values 0 1\noutcome 40 seed {seed + 60} values 1 1\nend\n")
+def made(seed: int, rounds: int = 100) -> str:
+    """Returns the part of so many rounds of which 40 have one outcome and the others another, written by hand."""
+    version, many = lockup("--version").out.split()[-1], rounds - 40
+    return (f"lockup-part 1 {version} test {fnv_1a(TEST.read_bytes())} limit none seed {seed} rounds {rounds}\n"
+            f"outcome {many} seed {seed} values 0 1\noutcome 40 seed {seed + many} values 1 1\nend\n")
 
 
 def test_text() -> None:
@@ -211,57 +245,11 @@ def test_many_parts() -> None:
             text = text.replace("60 seed 1 ", f"60 seed {seed} ").replace("40 seed 61 ", f"40 seed {seed + 60} ")
             parts.append(write(f"{room}/{number}", text))
         random.Random(1).shuffle(parts)
-        began = time.monotonic()
-        out, err = merged(parts)
-        took = time.monotonic() - began
+        # the disk may keep a reader waiting, and so it is the best of three
+        took = math.inf
+        for _ in range(3):
+            began = time.monotonic()
+            out, err = merged(parts)
+            took = min(took, time.monotonic() - began)
         same("table", ("  600000 a=0 b=1 seed 1\n  400000 a=1 b=1 seed 61\nforbidden 0\n", ""), (out, err))
         want(took < FEW_SECONDS, f"{took:.1f} seconds")
-
-
-@seconds(60)
-def test_run_parallel() -> None:
-    """Two workers are killed on the way, and walked again."""
-    needs("parallel", "awk")
-    rounds, size = 200_000, 20_000
-    with tempfile.TemporaryDirectory() as room:
-        how = {"env": {**os.environ, "LOCKUP": str(program()), "SEED": "1"}}
-        words = [EXAMPLES / "run-parallel", TEST, str(rounds), f"{room}/parts", str(size)]
-        first = subprocess.Popen(words, cwd=ROOT, stdout=subprocess.DEVNULL, stderr=subprocess.DEVNULL, **how)
-        killed = kill_some(first, f"{room}/parts/", 2)
-        first.wait()
-        want(killed == 2, f"{killed} workers were killed")
-        ran = run(words, **how)
-        same("table", walk(1, rounds), ran.out)
-
-
-def kill_some(watched: subprocess.Popen, mark: str, count: int) -> int:
-    """Kills so many processes of the program under test that write below this folder. Returns how many it found."""
-    killed: set[int] = set()
-    while watched.poll() is None and len(killed) < count:
-        for number in filter(str.isdigit, os.listdir("/proc")):
-            try:
-                if os.path.samefile(f"/proc/{number}/exe", program()) and os.readlink(f"/proc/{number}/fd/1").startswith(mark):
-                    os.kill(int(number), signal.SIGKILL)
-                    killed.add(int(number))
-                    break
-            except OSError:
-                continue
-        time.sleep(0.02)
-    return len(killed)
-
-
-@seconds(120)
-def test_run_slurm() -> None:
-    """On a cluster of one node, where one runs."""
-    needs("sbatch", "sinfo", "awk")
-    if run(["sinfo", "--noheader", "--states=idle"]).out.strip() == "":
-        raise Skipped("no node of a Slurm cluster is idle")
-    with tempfile.TemporaryDirectory() as room:
-        how = {"env": {**os.environ, "LOCKUP": str(program()), "SEED": "1"}}
-        ran = run([EXAMPLES / "run-slurm", TEST, "100000", f"{room}/parts", "20000"], **how)
-        same("status", 0, ran.status)
-        table = Path(f"{room}/parts/table")
-        ends = time.monotonic() + 100
-        while time.monotonic() < ends and not (table.exists() and table.read_text().endswith("\n")):
-            time.sleep(0.5)
-        same("table", walk(1, 100_000), read(table))

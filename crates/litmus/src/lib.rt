@@ -39,10 +39,10 @@ pub use history_text::Extent;
 pub use litmus_chart::{line_count, run_chart, run_svg};
 pub use litmus_command_line::{
     CommandLine, ModelCores, ScheduleForm, ScriptForm, Table, WhatIfForm, read_files, read_line,
-    read_part_files, read_settings,
+    read_settings,
 };
 pub use litmus_outcomes::OutcomeForm;
-pub use litmus_rounds::{Gap, Merged, PartFault, Parts, processors, sum_of};
+pub use litmus_rounds::{Gap, Merged, Part, PartFault, Parts, processors, sum_of};
 pub use litmus_script::run_script;
 pub use litmus_test::{Progress, Silent};
 pub use litmus_text::TextFault;

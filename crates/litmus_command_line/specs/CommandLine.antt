@@ -82,6 +82,10 @@ IsWhatIfFormOf rows what_if_forms.Json = AreWhatIfGiven rows true false false
 IsWhatIfFormOf rows what_if_forms.Svg = AreWhatIfGiven rows false true false
 IsWhatIfFormOf rows what_if_forms.Page = AreWhatIfGiven rows false false true
 
+-- parts are asked for, and no table
+abbrev pub prints_parts : List Row → Bool
+prints_parts rows = is_given (codes "part") rows || is_some (first_of (codes "resume") rows)
+
 -- rows are asked for, and no report
 abbrev pub is_swept : List Row → Bool
 is_swept rows =
@@ -119,15 +123,16 @@ IsLine name rows (command_lines.Walk file rounds seed limit jobs form explain) =
     × IsNumberIfGiven (codes "rounds") rows rounds × IsNumberOf (codes "seed") rows seed
     × IsNumberIfGiven (codes "limit") rows limit × IsNumberIfGiven (codes "jobs") rows jobs
     × IsScheduleFormOf rows form × (explain ≡ is_given (codes "explain") rows)
-    × (is_given (codes "part") rows ≡ false)
-IsLine name rows (command_lines.Part file rounds seed limit jobs explain) =
+    × (prints_parts rows ≡ false)
+IsLine name rows (command_lines.Part file resume rounds seed limit jobs explain) =
     (name ≡ codes "walk") × (first_of (codes "FILE") rows ≡ Some file.now)
+    × (option_map (λ f. f.now) resume ≡ first_of (codes "resume") rows)
     × IsNumberIfGiven (codes "rounds") rows rounds × IsNumberOf (codes "seed") rows seed
     × IsNumberIfGiven (codes "limit") rows limit × IsNumberIfGiven (codes "jobs") rows jobs
     × AreScheduleGiven rows false false false false false × (explain ≡ is_given (codes "explain") rows)
-    × (is_given (codes "part") rows ≡ true)
-IsLine name rows (command_lines.Merge file json) =
-    (name ≡ codes "merge") × (first_of (codes "TEST") rows ≡ Some file.now) × (json ≡ is_given (codes "json") rows)
+    × (prints_parts rows ≡ true)
+IsLine name rows (command_lines.Merge json mean) =
+    (name ≡ codes "merge") × (json ≡ is_given (codes "json") rows) × (mean ≡ is_given (codes "mean") rows)
 IsLine name rows (command_lines.Run file outstanding pace seed form explain) =
     (name ≡ codes "run") × (first_of (codes "FILE") rows ≡ Some file.now)
     × IsNumberIfGiven (codes "outstanding") rows outstanding × IsNumberIfGiven (codes "pace") rows pace

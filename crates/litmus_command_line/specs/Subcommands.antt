@@ -60,13 +60,13 @@ walk_app =
     (argument_rule (codes "FILE") ∷ positive_rule (codes "rounds") ∷ number_rule_or (codes "seed") (codes "1")
     ∷ positive_rule (codes "limit") ∷ positive_rule (codes "jobs") ∷ lone_rule (codes "script")
     ∷ lone_rule (codes "page") ∷ lone_rule (codes "coverage") ∷ lone_rule (codes "trace") ∷ lone_rule (codes "part")
-    ∷ lone_rule (codes "json") ∷ flag_rule (codes "explain") ∷ [])
+    ∷ lone_text_rule (codes "resume") ∷ lone_rule (codes "json") ∷ flag_rule (codes "explain") ∷ [])
 
--- the subcommand that adds parts up
+-- the subcommand that puts parts of a walk together, or rows
 abbrev pub merge_app : App
 merge_app =
     with_rules (new_app (codes "merge"))
-    (argument_rule (codes "TEST") ∷ several_rule (codes "PART") ∷ flag_rule (codes "json") ∷ [])
+    (several_rule (codes "FILE") ∷ flag_rule (codes "json") ∷ flag_rule (codes "mean") ∷ [])
 
 -- the subcommand that runs programs
 abbrev pub run_app : App

@@ -1,7 +1,7 @@
 ghost use Rattle.std.specs.Prelude.{◌≡◌, ◌<◌, map, IfOk, IfSome, Some, string_bytes, codes, false, is_some};
 ghost use Rattle.litmus_command_line.specs.CommandLine.{IsAsked, IsFormOf, IsLine, IsRead};
 ghost use Rattle.litmus_command_line.specs.CommandLine.{IsScheduleFormOf, is_given, IsNumberOf};
-ghost use Rattle.litmus_command_line.specs.CommandLine.{IsNumberIfGiven, AreTexts, is_swept, texts_in};
+ghost use Rattle.litmus_command_line.specs.CommandLine.{IsNumberIfGiven, AreTexts, is_swept, prints_parts, texts_in};
 ghost use Rattle.litmus_command_line.specs.Subcommands.{word_of, word_of_form, word_of_number};
 ghost use Rattle.litmus_command_line.specs.CommandLine.{AreTableFiles, IsWhatIfFormOf, names_tables};
 ghost use Rattle.litmus_command_line.specs.CommandLine.{texts_of};
@@ -66,20 +66,22 @@ pub enum CommandLine<'a> {
         form: ScheduleForm,
         explain: bool,
     },
-    /// Run the same rounds, and print them as a part, for `Merge` to add up.
+    /// Run the same rounds, and print them as parts, for `Merge` to add up: first the whole ones of the file `resume`, if
+    /// one is named.
     Part {
         file: &'a str,
+        resume: Option<&'a str>,
         rounds: Option<u64>,
         seed: u64,
         limit: Option<u64>,
         jobs: Option<u64>,
         explain: bool,
     },
-    /// Add up the parts of a walk of the litmus test in this file, in the files that `read_part_files` reads. With
-    /// `json`, print the outcomes as a value of JSON.
+    /// Put together what the files have that `read_files` reads: rows, or behind a litmus test the parts of its walk.
+    /// With `json`, print the outcomes of parts as a value of JSON, and with `mean` the means of rows.
     Merge {
-        file: &'a str,
         json: bool,
+        mean: bool,
     },
     /// Run the programs in this file in the order that the seed draws, with so many accesses of a core under way and up
     /// to so many deliveries of each slice behind an access, if a number is given, and not as many as the text says.
@@ -191,20 +193,12 @@ pub fn read_settings<'a>(alloc: Global, words: &'a [String]) -> Result<Vec<&'a s
     read_texts(alloc, words, "set")
 }
 
-/// Reads the files that words name which ask to add counts.
+/// Reads the files that words name which ask to add counts, or to put parts or rows together.
 pub fn read_files<'a>(alloc: Global, words: &'a [String]) -> Result<Vec<&'a str>, Error>
     ensures { IfOk result
         (λ texts. AreTexts (codes "FILE") (map string_bytes words.entry.now) (map (λ text. text.now) texts.items)) }
 {
     read_texts(alloc, words, "FILE")
-}
-
-/// Reads the files of parts that words name which ask to add them up.
-pub fn read_part_files<'a>(alloc: Global, words: &'a [String]) -> Result<Vec<&'a str>, Error>
-    ensures { IfOk result
-        (λ texts. AreTexts (codes "PART") (map string_bytes words.entry.now) (map (λ text. text.now) texts.items)) }
-{
-    read_texts(alloc, words, "PART")
 }
 
 fn read_texts<'a>(alloc: Global, words: &'a [String], name: &str) -> Result<Vec<&'a str>, Error>
@@ -365,9 +359,10 @@ fn walk_line<'a>(given: &ArgMatches<'a>) -> Option<CommandLine<'a>>
     let seed = number_of(given, "seed")?;
     let limit = number_if_given(given, "limit")?;
     let jobs = number_if_given(given, "jobs")?;
+    let resume = text_if_given(given, "resume");
     let form = schedule_form_of(given)?;
     let explain = is_given(given, "explain");
-    match (is_given(given, "part"), form) {
+    match (prints_parts(given), form) {
         (false, form) => Some(CommandLine::Walk {
             file,
             rounds,
@@ -379,6 +374,7 @@ fn walk_line<'a>(given: &ArgMatches<'a>) -> Option<CommandLine<'a>>
         }),
         (true, ScheduleForm::Report { json: false }) => Some(CommandLine::Part {
             file,
+            resume,
             rounds,
             seed,
             limit,
@@ -393,9 +389,10 @@ fn walk_line<'a>(given: &ArgMatches<'a>) -> Option<CommandLine<'a>>
 fn merge_line<'a>(given: &ArgMatches<'a>) -> Option<CommandLine<'a>>
     ensures { IfSome result (IsLine (codes "merge") (rows_of (found_of given.now))) }
 {
-    let file = text_of(given, "TEST")?;
+    let _first = file_of(given)?;
     let json = is_given(given, "json");
-    Some(CommandLine::Merge { file, json })
+    let mean = is_given(given, "mean");
+    Some(CommandLine::Merge { json, mean })
 }
 
 /// The form that the options ask for, where they ask for one alone. The command has refused all others.
@@ -678,6 +675,13 @@ fn text_if_given<'a>(given: &ArgMatches<'a>, name: &str) -> Option<&'a str>
     ensures { option_map (λ text. text.now) result ≡ first_of name.now (rows_of (found_of given.now)) }
 {
     given.get_str(name)
+}
+
+/// Whether parts are asked for, and no table.
+fn prints_parts(given: &ArgMatches<'_>) -> bool
+    ensures { result ≡ prints_parts (rows_of (found_of given.now)) }
+{
+    is_given(given, "part") || has_text(given, "resume")
 }
 
 /// Whether rows are asked for, and no report.

@@ -2,11 +2,11 @@
 //!
 //! [`read_line`] reads what the program's words ask for. Where it answers a [`CommandLine`], each of
 //! its parts is what `clap` reads of the words, as specs/CommandLine.antt says. [`read_settings`] reads
-//! the settings of a line that asks for rows, [`read_files`] the files of one that asks for a sum, and
-//! [`read_part_files`] those of one that adds parts up, of which there may be any number.
+//! the settings of a line that asks for rows, and [`read_files`] the files of one that asks for a sum, or that
+//! puts parts or rows together, of which there may be any number.
 #![tactic(auto)]
 
-pub use command_line::{CommandLine, read_files, read_line, read_part_files, read_settings};
+pub use command_line::{CommandLine, read_files, read_line, read_settings};
 pub use export::ModelCores;
 pub use form::{ScheduleForm, ScriptForm, WhatIfForm};
 pub use table::{Table, TableFiles};

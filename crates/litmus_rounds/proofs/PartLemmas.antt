@@ -1,21 +1,24 @@
 -- One more part is printed.
-use Rattle.std.proofs.Common.{◌≡◌, ◌+◌, ◌<◌, ℕ, List, [], ◌∷◌, ◌++◌, ap, arith, inl, inr, length, length-append, refl, subst, sym}
+use Rattle.std.proofs.Common.{◌≡◌, ◌+◌, ℕ, List, [], ◌∷◌, ◌++◌, ap, arith, inl, inr, length, length-append, refl, subst, sym}
 use Rattle.std.proofs.Common.{get_or, take, ◌∙◌}
-use Rattle.std.specs.Prelude.{◌≢◌, ◌≤◌, Option}
+use Rattle.std.specs.Prelude.{◌≢◌, ◌≤◌, ltb, Option, Some, None, All, IfSome, is_some}
+use Rattle.std.specs.Borrow.{Bor}
 use Rattle.std.proofs.lemmas.List.Quantifiers.{Any-push}
+use Rattle.litmus_outcomes.specs.declared.ended.Ended.{Ended}
 use Rattle.litmus_outcomes.specs.declared.ended.Ended.TheVariants as ended_kinds
 use Rattle.std.specs.Io.KnownBytes.{Appends}
 use Rattle.std.proofs.KnownBytes.{Appends-nil, Appends-trans}
 use Rattle.std.proofs.Math.ListN.{get_or-append}
 use Rattle.std.proofs.Math.Seq.{get_or-append_seam, take-append_seam}
-use Rattle.std.proofs.lemmas.Bool.{cases_lt}
+use Rattle.std.proofs.lemmas.Bool.{cases_lt, ltb-true}
 use Rattle.std.proofs.lemmas.List.{append-nil, take-append-le}
 use Rattle.std.proofs.lemmas.List.Concat.{flat_map-append}
-use Rattle.std.proofs.lemmas.List.Elements.{All-nil, All-push}
+use Rattle.std.proofs.lemmas.List.Elements.{All-get_or, All-nil, All-push}
 use Rattle.std.proofs.lemmas.List.Sums.{sum_by_push}
 use Rattle.litmus_parts.specs.Form.{text_of_part, text_of_parts}
 use Rattle.litmus_parts.specs.declared.part.Part.{Part}
-use Rattle.litmus_rounds.specs.Parts.{ArePrinted, AreParts, IsPartOf, IsPartWith, PrintsParts, count_of_parts}
+use Rattle.litmus_rounds.specs.Parts.{ArePrinted, AreParts, IsPartOf, IsPartWith, IsPrintedPart}
+use Rattle.litmus_rounds.specs.Parts.{PrintsParts, count_of_parts}
 use Rattle.litmus_rounds.specs.Run.{seed_of}
 use Rattle.litmus_test.specs.declared.test.LitmusTest.{LitmusTest}
 use Rattle.mshr_file.specs.Miss.{Bound}
@@ -62,28 +65,37 @@ module _ (test : LitmusTest) (bound : Bound) (sum seed most : ℕ) where
     counted = omega (arith, sum_by_push (λ (part : Part). part.count) parts part, are.counted, says.many);
   }
 
-  pub printed_next : (count more : ℕ) (part : Part) (a b c : Option (List ℕ))
-      → ArePrinted test bound sum count seed most a b → IsPartOf test bound part
-      → IsPartWith sum most (seed_of seed count) more part → Appends b c (text_of_part part)
+  pub printed_next : (count more : ℕ) (ended : Ended) (a b c : Option (List ℕ))
+      → ArePrinted test bound sum count seed most a b
+      → IsPrintedPart test bound sum more (seed_of seed count) most b c ended
       → ArePrinted test bound sum (count + more) seed most a c
-  printed_next count more part a b c some is says printed = record {
-    parts = some.parts ++ part ∷ [];
-    are = parts_push count more some.parts part some.are is says;
+  printed_next count more ended a b c some next = record {
+    parts = some.parts ++ next.part ∷ [];
+    are = parts_push count more some.parts next.part some.are next.is next.with;
     printed = subst (Appends a c)
-        (sym (flat_map-append text_of_part some.parts (part ∷ [])
-        ∙ ap (λ (t : List ℕ). text_of_parts some.parts ++ t) (append-nil (text_of_part part))))
-        (Appends-trans a b c (text_of_parts some.parts) (text_of_part part) some.printed printed);
+        (sym (flat_map-append text_of_part some.parts (next.part ∷ [])
+        ∙ ap (λ (t : List ℕ). text_of_parts some.parts ++ t) (append-nil (text_of_part next.part))))
+        (Appends-trans a b c (text_of_parts some.parts) (text_of_part next.part) some.printed next.printed);
   }
 
   -- a part with a round that has no outcome is the last
-  pub printed_last : (count more all : ℕ) (part : Part) (a b c : Option (List ℕ))
-      → ArePrinted test bound sum count seed most a b → IsPartOf test bound part
-      → IsPartWith sum most (seed_of seed count) more part → Appends b c (text_of_part part)
-      → part.ended ≢ ended_kinds.Done → count + more ≤ all → PrintsParts test bound sum all seed most a c
+  pub printed_last : (count more all : ℕ) (ended : Ended) (a b c : Option (List ℕ))
+      → ArePrinted test bound sum count seed most a b
+      → IsPrintedPart test bound sum more (seed_of seed count) most b c ended
+      → ended ≢ ended_kinds.Done → count + more ≤ all → PrintsParts test bound sum all seed most a c
   unfolding printed_next
-  printed_last count more all part a b c some is says printed not_done within = record {
+  printed_last count more all ended a b c some next not_done within = record {
     done = count + more;
     within = within;
-    printed = printed_next count more part a b c some is says printed;
-    whole = inr (Any-push (λ (part : Part). part.ended ≢ ended_kinds.Done) some.parts part not_done);
+    printed = printed_next count more ended a b c some next;
+    whole = inr (Any-push (λ (part : Part). part.ended ≢ ended_kinds.Done) some.parts next.part
+        (λ done. not_done (sym next.ends ∙ done)));
   }
+
+-- what holds of each part holds of the one that is found at a place
+pub known_at : (P : Part → Type 0) (parts : List Part) (i : ℕ) (known : Option (Bor Part))
+    → is_some known ≡ ltb i (length parts) → IfSome known (λ b. b.now ≡ get_or parts i b.now) → All P parts
+    → IfSome known (λ b. P b.now)
+known_at P parts i None within found all = tt
+known_at P parts i (Some b) within found all =
+    subst P (sym found) (All-get_or P parts i b.now (ltb-true i (length parts) (sym within)) all)

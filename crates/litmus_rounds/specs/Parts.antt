@@ -1,8 +1,9 @@
 -- A walk in parts, and parts put together.
 use Rattle.std.specs.Prelude.{◌≡◌, ◌≢◌, ◌⊎◌, ℕ, ◌<◌, ◌≤◌, List, length, take, sum_by, slice_index_or, All, Any, Option}
 use Rattle.std.specs.Io.KnownBytes.{Appends}
+use Rattle.litmus_outcomes.specs.declared.ended.Ended.{Ended}
 use Rattle.litmus_outcomes.specs.declared.ended.Ended.TheVariants as ended_kinds
-use Rattle.litmus_parts.specs.Form.{text_of_parts}
+use Rattle.litmus_parts.specs.Form.{text_of_part, text_of_parts}
 use Rattle.litmus_parts.specs.declared.part.Part.{Part}
 use Rattle.litmus_rounds.specs.Run.{HaveEnded, seed_of}
 use Rattle.litmus_test.specs.declared.test.LitmusTest.{LitmusTest}
@@ -18,6 +19,15 @@ pub record IsPartWith (sum most seed count : ℕ) (part : Part) : Type 0 where
   pub limited : part.most ≡ most
   pub begins : part.seed ≡ seed
   pub many : part.count ≡ count
+
+-- a part of so many rounds is printed, which ended so
+pub record IsPrintedPart (test : LitmusTest) (bound : Bound) (sum count seed most : ℕ) (before after : Option (List ℕ))
+    (ended : Ended) : Type 0 where
+  pub part : Part
+  pub is : IsPartOf test bound part
+  pub with : IsPartWith sum most seed count part
+  pub ends : part.ended ≡ ended
+  pub printed : Appends before after (text_of_part part)
 
 -- how many rounds parts have
 abbrev pub count_of_parts : List Part → ℕ

@@ -11,9 +11,9 @@
 //!   no round is missing they come to what one walk of all rounds comes to.
 #![tactic(auto)]
 
-pub use litmus_parts::{Gap, PartFault, sum_of};
+pub use litmus_parts::{Found, Gap, Part, PartFault, read_parts, sum_of};
 pub use merge::{Merged, Parts, print_merged};
-pub use parts::{PART_ROUNDS, print_parts};
+pub use parts::{PART_ROUNDS, first_other, print_parts};
 pub use run::{processors, run_walk};
 
 mod batch;

@@ -1,13 +1,13 @@
 //! A walk in parts, each printed as soon as its rounds are over.
-ghost use Rattle.std.specs.Prelude.{◌≡◌, ◌<◌, ◌^◌, IfErr, IfOk, OnOk};
+ghost use Rattle.std.specs.Prelude.{◌≡◌, ◌<◌, ◌^◌, [], All, IfErr, IfOk, IfSome, IsTrue, None, OnOk};
 ghost use Rattle.std.specs.Io.KnownBytes.{Appends, Keeps};
 ghost use Rattle.litmus_parts.specs.Form.{text_of_part};
-ghost use Rattle.litmus_rounds.specs.Parts.{IsPartOf, IsPartWith, PrintsParts};
+ghost use Rattle.litmus_rounds.specs.Parts.{IsPartOf, IsPartWith, IsPrintedPart, PrintsParts};
 ghost use Rattle.litmus_script.specs.Machine.{bound_of};
 ghost use Rattle.litmus_script.specs.Play.{IsOfRun};
 
 use super::batch::walk_batches;
-use litmus_outcomes::Outcomes;
+use litmus_outcomes::{Ended, Outcomes};
 use litmus_parts::{Part, push_part};
 use litmus_test::{LitmusTest, Progress, Silent};
 use litmus_text::TextFault;
@@ -20,12 +20,14 @@ use std::thread::Threads;
 pub const PART_ROUNDS: u64 = 100_000;
 
 /// Walks through a litmus test so many times, and prints the outcomes in parts, each of [`PART_ROUNDS`] rounds or of those
-/// that are left, as soon as its rounds are over. The part with a round that is stuck or is given up is the last.
+/// that are left, as soon as its rounds are over. The part with a round that is stuck or is given up is the last. Parts
+/// that are known already, in their order from the first on, are printed and not walked.
 pub fn print_parts<R: Threads + Sync, W: Write, P: Progress>(
     alloc: Global,
     rt: &R,
     jobs: usize,
     test: &LitmusTest<'_>,
+    known: &[Part],
     sum: u64,
     rounds: u64,
     seed: u64,
@@ -33,7 +35,8 @@ pub fn print_parts<R: Threads + Sync, W: Write, P: Progress>(
     progress: &mut P,
     out: &mut W,
 ) -> Result<(), TextFault>
-    ensures printed { OnOk result (PrintsParts test.now (bound_of test.now.misses test.now.config) sum rounds seed most
+    ensures printed { All (IsPartOf test.now (bound_of test.now.misses test.now.config)) known.now
+        → OnOk result (PrintsParts test.now (bound_of test.now.misses test.now.config) sum rounds seed most
         (W.contents out.old) (W.contents out.new)) }
     ensures fault { IfErr result IsOfRun }
 {
@@ -41,15 +44,68 @@ pub fn print_parts<R: Threads + Sync, W: Write, P: Progress>(
     while done < rounds {
         let count = (rounds - done).min(PART_ROUNDS);
         let from = seed.wrapping_add(done);
-        let part = walk_part(alloc, rt, jobs, test, sum, count, from, most)?;
-        print_part(alloc, &part, out)?;
-        if !part.ended.is_done() {
+        let known = known.get((done / PART_ROUNDS) as usize);
+        let ended = print_next(alloc, rt, jobs, test, known, sum, count, from, most, out)?;
+        if !ended.is_done() {
             return Ok(());
         }
         done += count;
         progress.done(done, rounds);
     }
     Ok(())
+}
+
+/// The seed of the first of the parts that a walk of these rounds doesn't begin with: none where it can go on behind
+/// them.
+pub fn first_other(known: &[Part], sum: u64, rounds: u64, seed: u64, most: u64) -> Option<u64>
+    ensures none { known.now ≡ [] → result ≡ None }
+{
+    for (place, part) in known.iter().enumerate() {
+        let done = (place as u64).saturating_mul(PART_ROUNDS);
+        let count = rounds.saturating_sub(done).min(PART_ROUNDS);
+        if count == 0 || !is_with(part, sum, most, seed.wrapping_add(done), count) {
+            return Some(part.seed);
+        }
+    }
+    None
+}
+
+// Whether a part is one of so many rounds from this seed on.
+fn is_with(part: &Part, sum: u64, most: u64, seed: u64, count: u64) -> bool
+    ensures { IsTrue result → IsPartWith sum most seed count part.now }
+{
+    part.sum == sum && part.most == most && part.seed == seed && part.count == count
+}
+
+// Prints the part of these rounds, which are walked where it isn't the known one. Returns how they ended.
+fn print_next<R: Threads + Sync, W: Write>(
+    alloc: Global,
+    rt: &R,
+    jobs: usize,
+    test: &LitmusTest<'_>,
+    known: Option<&Part>,
+    sum: u64,
+    count: u64,
+    seed: u64,
+    most: u64,
+    out: &mut W,
+) -> Result<Ended, TextFault>
+    ensures printed { IfSome known.entry (λ part. IsPartOf test.now (bound_of test.now.misses test.now.config) part.now)
+        → IfOk result (IsPrintedPart test.now (bound_of test.now.misses test.now.config) sum count seed most
+        (W.contents out.old) (W.contents out.new)) }
+    ensures fault { IfErr result IsOfRun }
+{
+    match known {
+        Some(part) if is_with(part, sum, most, seed, count) => {
+            print_part(alloc, part, out)?;
+            Ok(part.ended)
+        }
+        _ => {
+            let part = walk_part(alloc, rt, jobs, test, sum, count, seed, most)?;
+            print_part(alloc, &part, out)?;
+            Ok(part.ended)
+        }
+    }
 }
 
 fn walk_part<R: Threads + Sync>(

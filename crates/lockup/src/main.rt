@@ -10,7 +10,7 @@ use changed_tables::Tables;
 use litmus::{
     CommandLine, Extent, Form, JudgeForm, Limits, Merged, ModelCores, OutcomeForm, ScheduleForm,
     ScriptForm, Seeds, Size, SweepFault, TextKind, View, coverage_walk, hint, line_count,
-    print_merged, print_parts, processors, read_line, run_beside, run_chart, run_check,
+    print_merged, print_parts, processors, read_files, read_line, run_beside, run_chart, run_check,
     run_check_explained, run_check_json, run_coverage, run_explained, run_export, run_json,
     run_judge, run_litmus_as, run_page, run_programs, run_queries, run_script, run_svg, run_table,
     run_table_cells, run_test, run_trace, run_walk, run_waves, trace_litmus, view_schedule,
@@ -19,9 +19,10 @@ use litmus::{
 use litmus_text::TextFault;
 use lockup_front::{
     Counted, Painted, People, Play, REFUSED, Rows, Shown, add_coverage, answer_lines, complain,
-    head_of, merged_parts, print_rows, print_what_breaks, print_workload, read, read_tables,
-    report, show, tell_unforbidden, tell_unused,
+    head_of, known_parts, merged_parts, print_merged_rows, print_rows, print_what_breaks,
+    print_workload, read, read_tables, report, show, tell_unforbidden, tell_unused,
 };
+use program_rows::are_rows;
 use std::alloc::Global;
 use std::env::VarError;
 use std::io::{BufWriter, IsTerminal, Write};
@@ -33,6 +34,14 @@ use std::{env, io};
 
 /// What is said of a script to be tested that wants no answer.
 const NO_TEST: &str = "no answer is wanted: this is no test";
+
+/// What is said where rows are to be put together as parts, or parts as rows.
+const NO_JSON: &str = "--json: rows are put together as CSV alone";
+
+const NO_MEAN: &str = "--mean: a walk has outcomes, and no means";
+
+/// What is said of parts behind which a walk can't go on.
+const OTHER_ROUNDS: &str = "its parts are not the first of these rounds";
 
 /// How an answer is wanted.
 const HOW_TO_WANT: &str = "a wanted answer follows '=' at the end of its command's line";
@@ -108,7 +117,7 @@ where
             seed,
         } => print_workload(rt, people, name, Size { cores, size, seed }),
         CommandLine::Coverage => add_coverage(rt, people, words),
-        CommandLine::Merge { file, json } => merge(rt, people, words, file, json),
+        CommandLine::Merge { json, mean } => merge(rt, people, words, json, mean),
         CommandLine::WhatIf { .. } | CommandLine::Export { .. } => {
             run_under_tables(rt, people, line)
         }
@@ -116,18 +125,46 @@ where
     }
 }
 
-/// Puts parts of a walk of the litmus test in this file together, and prints what one walk of all their rounds prints.
-/// Returns the exit status.
-fn merge<R>(rt: &R, people: People, words: &[String], file: &str, json: bool) -> u8
+/// Puts the rows of the files together, or behind a litmus test the parts of its walk. Returns the exit status.
+fn merge<R>(rt: &R, people: People, words: &[String], json: bool, mean: bool) -> u8
 where
     R: Files + Input + AllocGlobal + Print + Eprint,
 {
-    let test = match read(rt, file) {
-        Ok(test) => test,
+    match read_files(rt.alloc(), words) {
+        Ok(files) => merge_files(rt, people, files.as_slice(), json, mean),
+        Err(error) => show(rt, people, &error),
+    }
+}
+
+fn merge_files<R>(rt: &R, people: People, files: &[&str], json: bool, mean: bool) -> u8
+where
+    R: Files + Input + AllocGlobal + Print + Eprint,
+{
+    let Some((file, parts)) = files.split_first() else {
+        return REFUSED;
+    };
+    let text = match read(rt, file) {
+        Ok(text) => text,
         Err(error) => return report(rt, people, &error, format_args!("cannot read {file}")),
     };
-    match merged_parts(rt, people, words, test.as_slice()) {
-        Ok(merged) => end(rt, people, write_merged(rt, test.as_slice(), &merged, json)),
+    match (are_rows(text.as_slice()), json, mean) {
+        (true, false, _) => print_merged_rows(rt, people, files, text.as_slice(), mean),
+        (false, _, false) => merge_parts(rt, people, text.as_slice(), parts, json),
+        (is_rows, _, _) => {
+            complain(rt, people, if is_rows { NO_JSON } else { NO_MEAN });
+            REFUSED
+        }
+    }
+}
+
+/// Puts parts of a walk of a litmus test together, and prints what one walk of all their rounds prints. Returns the exit
+/// status.
+fn merge_parts<R>(rt: &R, people: People, test: &[u8], files: &[&str], json: bool) -> u8
+where
+    R: Files + Input + AllocGlobal + Print + Eprint,
+{
+    match merged_parts(rt, people, test, files) {
+        Ok(merged) => end(rt, people, write_merged(rt, test, &merged, json)),
         Err(status) => status,
     }
 }
@@ -506,14 +543,23 @@ where
             }
         },
         CommandLine::Part {
+            resume,
             rounds,
             seed,
             limit,
             jobs,
             ..
         } => {
-            let jobs = jobs_of(rt, jobs);
-            print_parts(alloc, rt, jobs, input, rounds, seed, limit, shown, out)
+            let known = match known_parts(rt, people, input, resume) {
+                Ok(known) => known,
+                Err(status) => return Ok(status),
+            };
+            let (jobs, known) = (jobs_of(rt, jobs), known.as_slice());
+            let printed = print_parts(
+                alloc, rt, jobs, input, known, rounds, seed, limit, shown, out,
+            );
+            tell_other_rounds(rt, people, resume, printed);
+            printed
         }
         CommandLine::Run {
             file,
@@ -577,11 +623,27 @@ where
     }
 }
 
-/// As many jobs as are asked for, or else one for each processor.
+/// Tells that a walk can't go on behind the parts of this file.
+fn tell_other_rounds<R: Eprint>(
+    rt: &R,
+    people: People,
+    resume: Option<&str>,
+    printed: Result<u8, TextFault>,
+) {
+    if let (Some(file), Ok(REFUSED)) = (resume, printed) {
+        complain(rt, people, format_args!("{file}: {OTHER_ROUNDS}"));
+    }
+}
+
+/// How many jobs a processor has where no number of them is given. They walk stretches of one length, and are joined once
+/// all have: with one job each, every processor would wait for the slowest.
+const JOBS_OF_A_PROCESSOR: usize = 8;
+
+/// As many jobs as are asked for, or else some for each processor.
 fn jobs_of<R: Threads>(rt: &R, jobs: Option<u64>) -> usize {
     match jobs {
         Some(jobs) => usize::try_from(jobs).unwrap_or(usize::MAX),
-        None => processors(rt),
+        None => processors(rt).saturating_mul(JOBS_OF_A_PROCESSOR),
     }
 }
 

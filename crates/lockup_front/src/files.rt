@@ -1,5 +1,7 @@
 //! Files, and standard input.
 
+use super::people::{People, complain};
+use std::fmt::Display;
 use std::io::Read;
 use std::rt::Files;
 use std::{fs, io};
@@ -15,4 +17,24 @@ pub fn read<R: Files + Input + AllocGlobal>(rt: &R, file: &str) -> io::Result<Ve
     let mut input = Vec::new(rt.alloc());
     rt.reader().read_to_end(&mut input)?;
     Ok(input)
+}
+
+/// The file of this number among those that the command line names.
+pub(crate) fn named<'a>(files: &[&'a str], number: Option<usize>) -> Option<&'a str> {
+    files.get(number?).copied()
+}
+
+/// Complains of a fault in a file, and of the other file that it speaks of.
+pub(crate) fn complain_of_files<R: Eprint>(
+    rt: &R,
+    people: People,
+    file: Option<&str>,
+    other: Option<&str>,
+    fault: impl Display + Drop,
+) {
+    match (file, other) {
+        (Some(file), Some(other)) => complain(rt, people, format_args!("{file}: {fault} {other}")),
+        (Some(file), None) => complain(rt, people, format_args!("{file}: {fault}")),
+        (None, _) => complain(rt, people, fault),
+    }
 }

@@ -3,16 +3,17 @@
 //! - [`People`] are who is at the other end: [`complain`], [`report`] and [`show`] tell them what is wrong, [`Shown`] how
 //!   far a long run is, and [`Painted`] colors their answers. [`read`] reads a file, or standard input.
 //! - [`print_rows`], [`print_workload`], [`add_coverage`], [`answer_lines`] and [`print_what_breaks`] each do what a
-//!   subcommand asks for; [`read_tables`] reads tables with changed cells, and [`merged_parts`] puts parts of a walk
-//!   together.
+//!   subcommand asks for; [`read_tables`] reads tables with changed cells, [`known_parts`] those of a walk that goes on,
+//!   [`merged_parts`] puts parts together, and [`print_merged_rows`] rows.
 //! - [`tell_unused`] and [`tell_unforbidden`] say of a text that was run what its output doesn't.
 #![tactic(auto)]
 
 pub use coverage::add_coverage;
 pub use files::{STANDARD_INPUT, read};
 pub use head::head_of;
+pub use merged_rows::print_merged_rows;
 pub use painted::Painted;
-pub use parts::merged_parts;
+pub use parts::{known_parts, merged_parts};
 pub use people::{People, REFUSED, complain, report, show};
 pub use progress::{Counted, Shown};
 pub use prompt::answer_lines;
@@ -26,6 +27,7 @@ pub use workload::print_workload;
 mod coverage;
 mod files;
 mod head;
+mod merged_rows;
 mod painted;
 mod parts;
 mod people;

@@ -1,24 +1,13 @@
 //! Parts of a walk, put together.
 
-use super::files::read;
-use super::people::{People, complain, report, show};
-use litmus_command_line::read_part_files;
-use litmus_rounds::{Merged, PartFault, Parts, sum_of};
+use super::files::{complain_of_files, named, read};
+use super::people::{People, complain, report};
+use litmus_rounds::{Found, Merged, Part, PartFault, Parts, sum_of};
 use std::rt::Files;
 
-/// Puts the parts together that the files have which the command line names, of the litmus test with this text, and
-/// tells which seeds no part has. At Err, what is wrong was said, and this is the exit status.
-pub fn merged_parts<R>(rt: &R, people: People, words: &[String], test: &[u8]) -> Result<Merged, u8>
-where
-    R: Files + Input + AllocGlobal + Print + Eprint,
-{
-    match read_part_files(rt.alloc(), words) {
-        Ok(files) => put_together(rt, people, test, files.as_slice()),
-        Err(error) => Err(show(rt, people, &error)),
-    }
-}
-
-fn put_together<R>(rt: &R, people: People, test: &[u8], files: &[&str]) -> Result<Merged, u8>
+/// Puts the parts together that the files have, of the litmus test with this text, and tells which seeds no part has. At
+/// Err, what is wrong was said, and this is the exit status.
+pub fn merged_parts<R>(rt: &R, people: People, test: &[u8], files: &[&str]) -> Result<Merged, u8>
 where
     R: Files + Input + AllocGlobal + Eprint,
 {
@@ -31,6 +20,34 @@ where
         }
         Err(fault) => Err(refuse(rt, people, files, fault)),
     }
+}
+
+/// The whole parts of the file, if one is named, of the litmus test with this text. At Err, what is wrong was said, and
+/// this is the exit status.
+pub fn known_parts<R>(
+    rt: &R,
+    people: People,
+    test: &[u8],
+    file: Option<&str>,
+) -> Result<Vec<Part>, u8>
+where
+    R: Files + Input + AllocGlobal + Eprint,
+{
+    let Some(file) = file else {
+        return Ok(Vec::new(rt.alloc()));
+    };
+    let text = match read(rt, file) {
+        Ok(text) => text,
+        Err(error) => return Err(report(rt, people, &error, format_args!("cannot read {file}"))),
+    };
+    match read_parts_of(rt, test, text.as_slice()) {
+        Ok(Found { parts, .. }) => Ok(parts),
+        Err(fault) => Err(refuse(rt, people, &[file], fault)),
+    }
+}
+
+fn read_parts_of<R: AllocGlobal>(rt: &R, test: &[u8], text: &[u8]) -> Result<Found, PartFault> {
+    litmus_rounds::read_parts(rt.alloc(), sum_of(test), 0, text)
 }
 
 fn tell_gaps<R: Eprint>(rt: &R, people: People, merged: &Merged) {
@@ -60,14 +77,6 @@ where
 /// Says why parts can't be put together, and returns the exit status.
 fn refuse<R: Eprint>(rt: &R, people: People, files: &[&str], fault: PartFault) -> u8 {
     let (file, other) = (named(files, fault.file()), named(files, fault.other()));
-    match (file, other) {
-        (Some(file), Some(other)) => complain(rt, people, format_args!("{file}: {fault} {other}")),
-        (Some(file), None) => complain(rt, people, format_args!("{file}: {fault}")),
-        (None, _) => complain(rt, people, fault),
-    }
+    complain_of_files(rt, people, file, other, fault);
     fault.status()
-}
-
-fn named<'a>(files: &[&'a str], number: Option<usize>) -> Option<&'a str> {
-    files.get(number?).copied()
 }

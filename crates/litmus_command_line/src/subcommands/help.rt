@@ -118,12 +118,16 @@ So does one that isn't over after so many moves as --limit says: 'gave up round 
 With '--seed 5 --script' that round is printed, as a script for 'lockup script' and 'lockup chart',
 and with '--seed 5 --page' as a page, which a browser steps through.
 
-The processors walk side by side, all of them or as many as --jobs says, which changes nothing in the
-table. Several machines share a long walk by parts, each of other seeds, which 'lockup merge' adds up:
+Jobs walk side by side on all processors, which changes nothing in the table. Several machines share a
+long walk by parts, each of other seeds, which 'lockup merge' adds up:
 
   lockup walk sb.txt --rounds 1000000 --part > part1.txt
   lockup walk sb.txt --rounds 1000000 --seed 1000001 --part > part2.txt
   lockup merge sb.txt part1.txt part2.txt
+
+A walk that was killed goes on where its last whole part ends, and prints what it would have printed:
+
+  lockup walk sb.txt --rounds 1000000 --resume part1.txt > again.txt
 
 Documents: docs/TEXTS.md (the lines of a litmus test), docs/EXAMPLES.md (tests to begin with)
 
@@ -131,15 +135,21 @@ Example: lockup walk examples/litmus/sb.txt --rounds 1000";
 
 /// What stands below the options of `merge`.
 pub const MERGE: &str = "\
-A part is what 'lockup walk --part' prints of some rounds of the test. A file may hold several, and
-files come in any order. The table is that of one walk with the rounds of all parts, each counted once.
+A part is what 'lockup walk --part' prints of some rounds of a litmus test. Behind the test come the
+files of its parts, in any order, each with one part or more. The table is that of one walk with the
+rounds of all parts, each counted once.
 
 Parts of another test, with another limit or with seeds that are counted twice are refused. Seeds that
-no part counts are told as the options by which 'lockup walk --part' counts them:
+no part counts are told as the options with which 'lockup walk --part' walks them:
 
   --seed 1000001 --rounds 1000000
 
-Documents: docs/TEXTS.md (the lines of a part)
+Rows are what 'lockup run' prints of a sweep, as CSV. Those of several files are printed as one, each
+once; a row that is there twice with other figures is refused. With --mean a row stands for each
+combination of settings: of each figure the mean over its seeds, and behind it half the width of a
+95 % confidence interval, as Student's distribution has it.
+
+Documents: docs/TEXTS.md (the lines of a part, the columns of rows)
 
 Example: lockup merge sb.txt part1.txt part2.txt";
 

@@ -73,7 +73,7 @@ pub(super) fn walk<'a>(alloc: Global) -> Result<Command<'a>, AllocError>
             ),
             Parameter::Number(
                 "jobs",
-                "How many processors walk side by side; each where none is given",
+                "How many jobs walk side by side, by default eight for each processor",
                 Bounds::Positive,
             ),
             Parameter::LoneFlag(
@@ -101,10 +101,16 @@ pub(super) fn walk<'a>(alloc: Global) -> Result<Command<'a>, AllocError>
                 "Print the rounds as a part, for 'lockup merge'",
                 &["script", "page", "coverage", "trace"],
             ),
+            Parameter::LoneText(
+                "resume",
+                "Print the whole parts of this file, and go on behind them",
+                "FILE",
+                &["script", "page", "coverage", "trace"],
+            ),
             Parameter::LoneFlag(
                 "json",
                 "Print the outcomes as one value of JSON",
-                &["script", "page", "coverage", "trace", "part"],
+                &["script", "page", "coverage", "trace", "part", "resume"],
             ),
             Parameter::Flag("explain", EXPLAIN_ERROR),
         ],
@@ -117,15 +123,15 @@ pub(super) fn merge<'a>(alloc: Global) -> Result<Command<'a>, AllocError>
     subcommand(
         alloc,
         "merge",
-        "Adds the parts of a walk up, as one table",
+        "Puts the parts of a walk together as one table, or the rows of a sweep",
         help::MERGE,
         &[
-            Parameter::Argument("TEST", "The litmus test; - is standard input"),
             Parameter::Several(
-                "PART",
-                "What 'lockup walk --part' printed, in one file or more; - is standard input",
+                "FILE",
+                "A litmus test, and the files with parts of its walk; or files with rows; - is standard input",
             ),
             Parameter::Flag("json", "Print the outcomes as one value of JSON"),
+            Parameter::Flag("mean", "Print the means of rows over their seeds"),
         ],
     )
 }

@@ -3,7 +3,7 @@ use Rattle.litmus.proofs.Faults.{not-run}
 use Rattle.litmus.proofs.parts.print_parts.Goals as goal
 
 pub returns-in-Ok-clause-done : goal.returns-in-Ok-clause-done
-returns-in-Ok-clause-done g c =
+returns-in-Ok-clause-done g c = λ _.
     let read = c.in_ok-test in
     record {
       test = read.test;

@@ -1,4 +1,4 @@
-use Rattle.std.proofs.Common.{arith, inl, inr, refl}
+use Rattle.std.proofs.Common.{arith, inl, inr}
 use Rattle.litmus_rounds.proofs.RoundLemmas.{no_rounds, rounds_push}
 use Rattle.litmus_rounds.proofs.stretch.walk_rounds.Goals as goal
 

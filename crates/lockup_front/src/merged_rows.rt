@@ -1,0 +1,69 @@
+//! Rows of several files, put together.
+
+use super::files::{complain_of_files, named, read};
+use super::people::{People, report};
+use program_rows::{Rows, RowsFault};
+use std::io::{self, BufWriter, Write};
+use std::rt::Files;
+
+/// Prints the rows that the files have, of which the first has this text, each once; or the means of each combination of
+/// settings. Returns the exit status.
+pub fn print_merged_rows<R>(rt: &R, people: People, files: &[&str], first: &[u8], mean: bool) -> u8
+where
+    R: Files + Input + AllocGlobal + Print + Eprint,
+{
+    let mut rows = Rows::new(rt.alloc());
+    if let Err(fault) = rows.read(0, first) {
+        return refuse(rt, people, files, fault);
+    }
+    if let Err(status) = read_others(rt, people, files, &mut rows) {
+        return status;
+    }
+    match write(rt, &rows, mean) {
+        Ok(()) => 0,
+        Err(fault) => refuse(rt, people, files, fault),
+    }
+}
+
+fn read_others<R>(rt: &R, people: People, files: &[&str], rows: &mut Rows) -> Result<(), u8>
+where
+    R: Files + Input + AllocGlobal + Eprint,
+{
+    for (number, file) in files.iter().enumerate().skip(1) {
+        let text = match read(rt, file) {
+            Ok(text) => text,
+            Err(error) => {
+                return Err(report(rt, people, &error, format_args!("cannot read {file}")));
+            }
+        };
+        if let Err(fault) = rows.read(number, text.as_slice()) {
+            return Err(refuse(rt, people, files, fault));
+        }
+    }
+    Ok(())
+}
+
+fn write<R>(rt: &R, rows: &Rows, mean: bool) -> Result<(), RowsFault>
+where
+    R: AllocGlobal + Print,
+{
+    let Ok(mut out) = BufWriter::new(rt.alloc(), io::writer(rt)) else {
+        return Err(RowsFault::NoMemory);
+    };
+    let written = if mean {
+        rows.write_means(&mut out)
+    } else {
+        rows.write(&mut out)
+    };
+    match out.flush() {
+        Ok(()) => written,
+        Err(_) => Err(RowsFault::CannotWrite),
+    }
+}
+
+/// Says why rows can't be put together, and returns the exit status.
+fn refuse<R: Eprint>(rt: &R, people: People, files: &[&str], fault: RowsFault) -> u8 {
+    let (file, other) = (named(files, fault.file()), named(files, fault.other()));
+    complain_of_files(rt, people, file, other, fault);
+    fault.status()
+}

@@ -1,0 +1,3 @@
+mod HeldLemmas
+mod IntervalLemmas
+mod SpreadLemmas

@@ -1,0 +1,5 @@
+pub mod Column
+pub mod Figures
+pub mod Line
+pub mod Quantile
+pub mod Held

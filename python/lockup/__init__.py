@@ -3,10 +3,13 @@
 `Machine` is the proved machine, call by call; `Scoreboard` holds a design against one, and `lockup.shrink` makes the script
 of a fault short. `Judge` judges the trace of any cache, entry by entry, and `Histories` what its cores asked for and were
 answered, in no known order. Each call does what the same line of a script does (docs/TEXTS.md); docs/LIBRARY.md says what is
-proved.
+proved. `rounds` and `rows` walk litmus tests and run sweeps by the program `lockup`.
 """
+from .campaigns import Outcome, Rounds, rounds, rows
 from .cells import CELLS, coverage_text
-from .errors import Differs, InUse, LockupError, NoMachine, NoMemory, NotAllowed, OutOfRange
+from .errors import (
+    Differs, InUse, LockupError, NoMachine, NoMemory, NoOutcome, NoProgram, NotAdded, NotAllowed, OutOfRange, ProgramFailed,
+)
 from .histories import Histories
 from .judge import Judge
 from .library import library as _library
@@ -25,10 +28,12 @@ __version__ = "0.3.0"
 
 __all__ = [
     "Answer", "CELLS", "Channel", "Coherence", "Config", "Copy", "CopyState", "CoreCounts", "Decision", "Delivered",
-    "Delivery", "Differs", "Directory", "DirectoryState", "Entry", "Evicted", "Histories", "InUse", "Issued", "Judge",
-    "Judged", "Judgement", "Kind", "LockupError", "Log", "Machine", "Message", "MessageCounts", "MessageKind",
-    "Misses", "NoMachine", "NoMemory", "NotAllowed", "Op", "OutOfRange", "Planned", "Policy", "Reason", "Receipt",
-    "Refused", "Register", "Scoreboard", "Stall", "Target", "Verdict", "Why", "coverage_text", "library_version",
+    "Delivery", "Differs", "Directory", "DirectoryState", "Entry", "Evicted", "Histories", "InUse", "Issued",
+    "Judge", "Judged", "Judgement", "Kind", "LockupError", "Log", "Machine", "Message", "MessageCounts",
+    "MessageKind", "Misses", "NoMachine", "NoMemory", "NoOutcome", "NoProgram", "NotAdded", "NotAllowed", "Op",
+    "OutOfRange", "Outcome", "Planned", "Policy", "ProgramFailed", "Reason", "Receipt", "Refused", "Register",
+    "Rounds", "Scoreboard", "Stall", "Target", "Verdict", "Why", "coverage_text", "library_version", "rounds",
+    "rows",
 ]
 
 

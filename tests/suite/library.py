@@ -30,7 +30,7 @@ from pathlib import Path
 from typing import Iterator
 
 from harness import (
-    ROOT, Ran, Skipped, each, each_refused, lockup, needs, read, run, same, seconds, want, write,
+    ROOT, Ran, Skipped, each, each_refused, lockup, needs, program, read, run, same, seconds, want, write,
 )
 from harness.library import FIRST_SAYS, INCLUDE, archive, module, part_of, player, shared
 from harness.scripts import example, examples, is_trace
@@ -776,11 +776,12 @@ def test_shown_python() -> None:
     """What docs/LIBRARY.md shows prints what stands behind its prints."""
     module()
     blocks = re.findall(r"```python\n(.*?)```", read(ROOT / "docs/LIBRARY.md"), re.S)
-    same("blocks", 5, len(blocks))
+    same("blocks", 6, len(blocks))
+    environment = {**os.environ, "PYTHONPATH": str(ROOT / "python"), "LOCKUP_PROGRAM": str(program())}
     for block in blocks:
         windows = int((re.findall(r"^for window in range\((\d+)\)", block, re.M) or ["1"])[0])
         wanted = windows * "".join(f"{it}\n" for it in re.findall(r"^ *print\(.*\) +# (.*)$", block, re.M))
-        code = run([sys.executable, "-c", block], env={**os.environ, "PYTHONPATH": str(ROOT / "python")})
+        code = run([sys.executable, "-c", block], env=environment)
         same("what it prints", (0, wanted, ""), tuple(code))
 
 

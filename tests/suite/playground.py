@@ -108,7 +108,7 @@ def test_its_first_answer(browser: str) -> None:
     """The best of some, since other tests run beside it."""
     folder()
     taken = []
-    for _ in range(4):
+    for _ in range(15):
         with BROWSERS[browser]() as it:
             it.begin()
             taken.append(it.get("performance.now()"))

@@ -5,13 +5,12 @@ Behind rounds 1, 2, 5, 10, 20, 50, 100, 200 and each 500 but the last stands how
 on one line, behind each 65,536 moves of programs how many of their steps are taken, and behind the rows
 that are written together, but the last, how many rows are. Where nobody watches nothing is said.
 """
-import os
-import pty
 import re
 import subprocess
 import tempfile
 
 from harness import each, lockup, program, same, want, write
+from harness.terminals import shown_at_terminal
 
 TEST = "lockup-litmus 1\nrounds 1500\nthread 0\nload 0 a\nforbid a=1\n"
 TOLD = b"".join(b"%d of 1500 rounds\r" % done for done in (1, 2, 5, 10, 20, 50, 100, 200, 500, 1000))
@@ -19,20 +18,8 @@ TOLD = b"".join(b"%d of 1500 rounds\r" % done for done in (1, 2, 5, 10, 20, 50, 
 
 def watched(*words: str) -> tuple[int, bytes]:
     """Returns the status of a run, and what a terminal is told."""
-    ours, theirs = pty.openpty()
-    ran = subprocess.Popen([program(), *words], stdin=subprocess.DEVNULL, stdout=subprocess.DEVNULL, stderr=theirs)
-    os.close(theirs)
-    told = b""
-    while True:
-        try:
-            some = os.read(ours, 4096)
-        except OSError:
-            break
-        if not some:
-            break
-        told += some
-    os.close(ours)
-    return ran.wait(), told
+    told, status = shown_at_terminal([program(), *words], stdout=subprocess.DEVNULL)
+    return status, told
 
 
 @each(lambda: ["walk", "litmus"])

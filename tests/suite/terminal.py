@@ -1,10 +1,10 @@
 """What the program does at a terminal and with names of files: colors where answers are explained,
 on a terminal alone and not where NO_COLOR is set; a prompt's mark; names with blanks, and names that aren't UTF-8."""
 import os
-import pty
 import tempfile
 
 from harness import lockup, program, same, text_of, write
+from harness.terminals import shown_at_terminal
 
 SCRIPT = "issue 0 0 load 0\nissue 1 0 store 0 1\ndeliver req 0 0\ndeliver req 0 1\ndeliver fwd 0 0\nrq\n"
 # of the five answers the third and the fourth are moved, and the last one is blocked: the Inv
@@ -14,23 +14,9 @@ MOVED, BLOCKED, ERROR = "\x1b[32mmoved\x1b[0m", "\x1b[33mblocked\x1b[0m", "\x1b[
 
 def at_terminal(*words: str, typed: bytes = b"", **env: str) -> tuple[str, int]:
     """Returns what a terminal shows of the program and of what is typed, and the program's status."""
-    child, terminal = pty.fork()
-    if child == 0:
-        os.environ.pop("NO_COLOR", None)
-        os.environ.update(env)
-        os.execv(program(), ["lockup", *words])
-    os.write(terminal, typed)
-    told = b""
-    while True:
-        try:
-            more = os.read(terminal, 65536)
-        except OSError:
-            break
-        if not more:
-            break
-        told += more
-    os.close(terminal)
-    return text_of(told).replace("\r\n", "\n"), os.waitstatus_to_exitcode(os.waitpid(child, 0)[1])
+    environment = {name: value for name, value in os.environ.items() if name != "NO_COLOR"} | env
+    told, status = shown_at_terminal([program(), *words], environment, typed)
+    return text_of(told).replace("\r\n", "\n"), status
 
 
 def counts(text: str) -> list[int]:

@@ -28,11 +28,11 @@
  * Ownership. A handle begins as {0}: it has nothing. lockup_make gives it a machine, and lockup_free takes it away
  * again and leaves {0}. A handle may be moved, but never copied: of two copies both would own the machine. Its field is
  * the library's. A pointer that is passed points to memory that was initialised and that no other argument shares, and
- * is used during the call alone. In C and C++ one that is NULL is caught in front of the library, by lockup_null.h: the
- * call returns LOCKUP_NULL, and has changed and written nothing. A list of none may be NULL.
+ * is used during the call alone. Where one is NULL the call returns LOCKUP_NULL, and has changed and written nothing; a
+ * list of none may be NULL.
  *
- * Threads. A handle takes part in one call at a time; it may go from one thread to another between calls. Different
- * handles have nothing in common. No call may come from a signal handler, nor from a child of fork in a process with
+ * Threads. A handle takes part in one call at a time, also in one that takes it as const: it may go from one thread to
+ * another between calls. Different handles have nothing in common. No call may come from a signal handler, nor from a child of fork in a process with
  * threads.
  *
  * Memory comes from malloc and realloc, and goes to free. lockup_issue takes some where the log grows, before anything
@@ -406,7 +406,7 @@ uint32_t lockup_make_with(lockup_machine *machine, const lockup_config *config, 
 /* Gives `copy`, which has nothing, the same machine once more: what is tried with one of them leaves the other as it
  * is. It costs as much memory as the machine has touched. LOCKUP_IN_USE where `copy` has a machine already;
  * LOCKUP_NO_MEMORY. The two are different handles. */
-uint32_t lockup_clone(lockup_machine *machine, lockup_machine *copy);
+uint32_t lockup_clone(const lockup_machine *machine, lockup_machine *copy);
 
 /* Frees the machine, and leaves {0}. LOCKUP_NO_MACHINE where the handle has nothing. */
 uint32_t lockup_free(lockup_machine *machine);
@@ -437,73 +437,76 @@ uint32_t lockup_hand(lockup_machine *machine, uint64_t core, uint64_t slice, loc
 /* ---- what a step would do. Nothing is changed. */
 
 /* What lockup_issue would do. */
-uint32_t lockup_decide(lockup_machine *machine, uint64_t core, uint64_t tag, uint64_t op, uint64_t word,
+uint32_t lockup_decide(const lockup_machine *machine, uint64_t core, uint64_t tag, uint64_t op, uint64_t word,
                        uint64_t operand, uint64_t replacement, lockup_decision *decision);
 
 /* What lockup_deliver would do. */
-uint32_t lockup_plan(lockup_machine *machine, uint64_t channel, uint64_t line, uint64_t core, uint64_t from,
+uint32_t lockup_plan(const lockup_machine *machine, uint64_t channel, uint64_t line, uint64_t core, uint64_t from,
                      lockup_planned *planned);
 
 /* Which cell of the protocol's tables lockup_issue, lockup_evict or lockup_deliver would meet, by its number below
  * LOCKUP_CELLS, or LOCKUP_NO_CELL; LOCKUP_NAME(cell, number) is its name. What is refused, stalls for want of room or moves
  * nothing since no message waits meets none. An eviction for which the write-back buffer has no room meets none either,
  * which the answer to lockup_evict says: here it has the cell that it would meet with room. */
-uint32_t lockup_cell_of_issue(lockup_machine *machine, uint64_t core, uint64_t tag, uint64_t op, uint64_t word,
+uint32_t lockup_cell_of_issue(const lockup_machine *machine, uint64_t core, uint64_t tag, uint64_t op, uint64_t word,
                               uint64_t operand, uint64_t replacement, uint64_t *cell);
-uint32_t lockup_cell_of_evict(lockup_machine *machine, uint64_t core, uint64_t line, uint64_t *cell);
-uint32_t lockup_cell_of_deliver(lockup_machine *machine, uint64_t channel, uint64_t line, uint64_t core, uint64_t from,
-                                uint64_t *cell);
+uint32_t lockup_cell_of_evict(const lockup_machine *machine, uint64_t core, uint64_t line, uint64_t *cell);
+uint32_t lockup_cell_of_deliver(const lockup_machine *machine, uint64_t channel, uint64_t line, uint64_t core,
+                                uint64_t from, uint64_t *cell);
 
 /* What lockup_deliver_next would deliver. */
-uint32_t lockup_next(lockup_machine *machine, uint64_t slice, uint64_t channel, lockup_next_delivery *next);
+uint32_t lockup_next(const lockup_machine *machine, uint64_t slice, uint64_t channel, lockup_next_delivery *next);
 
 /* ---- what there is. Nothing is changed. */
 
 /* A core's copy of a line, also one that is being written back. */
-uint32_t lockup_copy_at(lockup_machine *machine, uint64_t core, uint64_t line, lockup_copy *copy);
+uint32_t lockup_copy_at(const lockup_machine *machine, uint64_t core, uint64_t line, lockup_copy *copy);
 
 /* The directory's entry of a line. */
-uint32_t lockup_directory_at(lockup_machine *machine, uint64_t line, lockup_directory *directory);
+uint32_t lockup_directory_at(const lockup_machine *machine, uint64_t line, lockup_directory *directory);
 
 /* How many miss registers a core holds in a slice, and one of them, in their order. LOCKUP_NO_MEMORY. */
-uint32_t lockup_registers(lockup_machine *machine, uint64_t core, uint64_t slice, uint64_t *count);
-uint32_t lockup_register_at(lockup_machine *machine, uint64_t core, uint64_t slice, uint64_t nth,
+uint32_t lockup_registers(const lockup_machine *machine, uint64_t core, uint64_t slice, uint64_t *count);
+uint32_t lockup_register_at(const lockup_machine *machine, uint64_t core, uint64_t slice, uint64_t nth,
                             lockup_register *found);
 
 /* How many accesses of a core wait for a line, and one of them, the oldest first. */
-uint32_t lockup_targets(lockup_machine *machine, uint64_t core, uint64_t line, uint64_t *count);
-uint32_t lockup_target_at(lockup_machine *machine, uint64_t core, uint64_t line, uint64_t nth, lockup_target *target);
+uint32_t lockup_targets(const lockup_machine *machine, uint64_t core, uint64_t line, uint64_t *count);
+uint32_t lockup_target_at(const lockup_machine *machine, uint64_t core, uint64_t line, uint64_t nth,
+                          lockup_target *target);
 
 /* How many lines a core is writing back in a slice, and one of them, the latest last. LOCKUP_NO_MEMORY. */
-uint32_t lockup_writebacks(lockup_machine *machine, uint64_t core, uint64_t slice, uint64_t *count);
-uint32_t lockup_writeback_at(lockup_machine *machine, uint64_t core, uint64_t slice, uint64_t nth, uint64_t *line);
+uint32_t lockup_writebacks(const lockup_machine *machine, uint64_t core, uint64_t slice, uint64_t *count);
+uint32_t lockup_writeback_at(const lockup_machine *machine, uint64_t core, uint64_t slice, uint64_t nth,
+                             uint64_t *line);
 
 /* How many lines a core has in the set of a line, and one of them, in the order of the policy: the line that was used
  * last is last under LOCKUP_LRU, else the one that came last. LOCKUP_NO_MEMORY. */
-uint32_t lockup_ways(lockup_machine *machine, uint64_t core, uint64_t line, uint64_t *count);
-uint32_t lockup_way_at(lockup_machine *machine, uint64_t core, uint64_t line, uint64_t nth, uint64_t *found);
+uint32_t lockup_ways(const lockup_machine *machine, uint64_t core, uint64_t line, uint64_t *count);
+uint32_t lockup_way_at(const lockup_machine *machine, uint64_t core, uint64_t line, uint64_t nth, uint64_t *found);
 
 /* How many channels of a line have a message, and the message in front of one of them: the block that comes home, data,
  * acknowledgements, what is forwarded, requests, and those of a kind by their cores. */
-uint32_t lockup_messages(lockup_machine *machine, uint64_t line, uint64_t *count);
-uint32_t lockup_message_at(lockup_machine *machine, uint64_t line, uint64_t nth, lockup_message *message);
+uint32_t lockup_messages(const lockup_machine *machine, uint64_t line, uint64_t *count);
+uint32_t lockup_message_at(const lockup_machine *machine, uint64_t line, uint64_t nth, lockup_message *message);
 
 /* Whether the machine is quiet: 1 where no message waits, no miss register is held, no write-back is pending, and each
  * reply was handed out. */
-uint32_t lockup_quiet(lockup_machine *machine, uint64_t *quiet);
+uint32_t lockup_quiet(const lockup_machine *machine, uint64_t *quiet);
 
 /* The value of a word, where its slice is quiet. */
-uint32_t lockup_word_at(lockup_machine *machine, uint64_t word, lockup_word *value);
+uint32_t lockup_word_at(const lockup_machine *machine, uint64_t word, lockup_word *value);
 
 /* What was counted. A count stops at 2^64 - 1. */
-uint32_t lockup_counts_of_core(lockup_machine *machine, uint64_t core, uint64_t slice, lockup_core_counts *counts);
-uint32_t lockup_counts_of_messages(lockup_machine *machine, uint64_t slice, lockup_message_counts *counts);
+uint32_t lockup_counts_of_core(const lockup_machine *machine, uint64_t core, uint64_t slice,
+                               lockup_core_counts *counts);
+uint32_t lockup_counts_of_messages(const lockup_machine *machine, uint64_t slice, lockup_message_counts *counts);
 
 /* How many entries the log of a slice has. */
-uint32_t lockup_entries(lockup_machine *machine, uint64_t slice, uint64_t *count);
+uint32_t lockup_entries(const lockup_machine *machine, uint64_t slice, uint64_t *count);
 
 /* One of them, in the order in which they were performed. */
-uint32_t lockup_entry_at(lockup_machine *machine, uint64_t slice, uint64_t nth, lockup_entry *entry);
+uint32_t lockup_entry_at(const lockup_machine *machine, uint64_t slice, uint64_t nth, lockup_entry *entry);
 
 /* ---- a trace is judged as it comes: entries of any cache, not only of a machine here */
 
@@ -519,7 +522,7 @@ uint32_t lockup_check_begin(lockup_check *check, uint64_t word, uint64_t value);
 uint32_t lockup_check_entry(lockup_check *check, const lockup_entry *entry);
 
 /* What the entries come to so far. */
-uint32_t lockup_check_verdict(lockup_check *check, lockup_verdict *verdict);
+uint32_t lockup_check_verdict(const lockup_check *check, lockup_verdict *verdict);
 
 /* Ends the trace, and leaves {0}. */
 uint32_t lockup_check_free(lockup_check *check);
@@ -547,7 +550,7 @@ uint32_t lockup_judge_verdict(lockup_judge *judge, uint64_t limit, lockup_judgem
 
 /* One of the reasons of the last judgement: of each the first access comes before the last, and in the end one before
  * itself. */
-uint32_t lockup_judge_reason(lockup_judge *judge, uint64_t nth, lockup_reason *reason);
+uint32_t lockup_judge_reason(const lockup_judge *judge, uint64_t nth, lockup_reason *reason);
 
 /* Ends the histories, and leaves {0}. */
 uint32_t lockup_judge_free(lockup_judge *judge);
@@ -563,10 +566,6 @@ uint32_t lockup_judge_free(lockup_judge *judge);
 #define LOCKUP_INLINE static __inline__
 #else
 #define LOCKUP_INLINE static
-#endif
-
-#ifndef LOCKUP_UNCHECKED
-#include "lockup_null.h"
 #endif
 
 #endif

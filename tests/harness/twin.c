@@ -107,7 +107,7 @@ static void answer_hand(uint64_t core, uint64_t slice, lockup_receipt *it) {
 /* ---- the design's states */
 
 static uint32_t copy_at(void *of, uint64_t core, uint64_t line, lockup_copy *it) {
-    const uint32_t code = lockup_copy_at((lockup_machine *)of, core, line, it);
+    const uint32_t code = lockup_copy_at((const lockup_machine *)of, core, line, it);
     const uint64_t is_in = it->state;
     const int data = is_in == LOCKUP_IM_A || is_in == LOCKUP_SM_A, none = is_in == LOCKUP_I || is_in == LOCKUP_II_A;
     if (is("junk", NULL) && !data) it->wants = 77;
@@ -118,7 +118,7 @@ static uint32_t copy_at(void *of, uint64_t core, uint64_t line, lockup_copy *it)
 }
 
 static uint32_t directory_at(void *of, uint64_t line, lockup_directory *it) {
-    const uint32_t code = lockup_directory_at((lockup_machine *)of, line, it);
+    const uint32_t code = lockup_directory_at((const lockup_machine *)of, line, it);
     if (is("junk", NULL) && it->state != LOCKUP_DIR_M) it->owner = 1;
     if (is("junk", NULL) && (it->state == LOCKUP_DIR_M || it->state == LOCKUP_DIR_I)) it->sharers = 77;
     if (is("junk", NULL) && (it->state == LOCKUP_DIR_M || it->state == LOCKUP_DIR_S_D)) it->home[draw(8)] = 77;
@@ -133,30 +133,30 @@ static uint64_t place_of(const char *what, uint64_t nth, uint64_t count) {
 }
 
 static uint32_t registers(void *of, uint64_t core, uint64_t slice, uint64_t *count) {
-    const uint32_t code = lockup_registers((lockup_machine *)of, core, slice, count);
+    const uint32_t code = lockup_registers((const lockup_machine *)of, core, slice, count);
     spoil_count("registers", count);
     return code;
 }
 
 static uint32_t register_at(void *of, uint64_t core, uint64_t slice, uint64_t nth, lockup_register *it) {
     uint64_t count = 0;
-    uint32_t code = lockup_registers((lockup_machine *)of, core, slice, &count);
-    if (!code) code = lockup_register_at((lockup_machine *)of, core, slice, place_of("registers", nth, count), it);
+    uint32_t code = lockup_registers((const lockup_machine *)of, core, slice, &count);
+    if (!code) code = lockup_register_at((const lockup_machine *)of, core, slice, place_of("registers", nth, count), it);
     if (is("junk", NULL) && it->kind == LOCKUP_MSG_GETS) it->needed = it->counted = 77;
     spoil("register", it, 1);
     return code;
 }
 
 static uint32_t targets(void *of, uint64_t core, uint64_t line, uint64_t *count) {
-    const uint32_t code = lockup_targets((lockup_machine *)of, core, line, count);
+    const uint32_t code = lockup_targets((const lockup_machine *)of, core, line, count);
     spoil_count("targets", count);
     return code;
 }
 
 static uint32_t target_at(void *of, uint64_t core, uint64_t line, uint64_t nth, lockup_target *it) {
     uint64_t count = 0;
-    uint32_t code = lockup_targets((lockup_machine *)of, core, line, &count);
-    if (!code) code = lockup_target_at((lockup_machine *)of, core, line, place_of("targets", nth, count), it);
+    uint32_t code = lockup_targets((const lockup_machine *)of, core, line, &count);
+    if (!code) code = lockup_target_at((const lockup_machine *)of, core, line, place_of("targets", nth, count), it);
     if (is("junk", NULL) && it->op == LOCKUP_LOAD) it->operand = 77;
     if (is("junk", NULL) && it->op != LOCKUP_CAS) it->replacement = 77;
     if (is("unseen", NULL)) it->seq = it->since = it->tag = LOCKUP_UNSEEN;
@@ -165,43 +165,43 @@ static uint32_t target_at(void *of, uint64_t core, uint64_t line, uint64_t nth, 
 }
 
 static uint32_t writebacks(void *of, uint64_t core, uint64_t slice, uint64_t *count) {
-    const uint32_t code = lockup_writebacks((lockup_machine *)of, core, slice, count);
+    const uint32_t code = lockup_writebacks((const lockup_machine *)of, core, slice, count);
     spoil_count("writebacks", count);
     return code;
 }
 
 static uint32_t writeback_at(void *of, uint64_t core, uint64_t slice, uint64_t nth, uint64_t *line) {
     uint64_t count = 0;
-    uint32_t code = lockup_writebacks((lockup_machine *)of, core, slice, &count);
-    if (!code) code = lockup_writeback_at((lockup_machine *)of, core, slice, place_of("writebacks", nth, count), line);
+    uint32_t code = lockup_writebacks((const lockup_machine *)of, core, slice, &count);
+    if (!code) code = lockup_writeback_at((const lockup_machine *)of, core, slice, place_of("writebacks", nth, count), line);
     spoil("writeback", line, 0);
     return code;
 }
 
 static uint32_t ways(void *of, uint64_t core, uint64_t line, uint64_t *count) {
-    const uint32_t code = lockup_ways((lockup_machine *)of, core, line, count);
+    const uint32_t code = lockup_ways((const lockup_machine *)of, core, line, count);
     spoil_count("ways", count);
     return code;
 }
 
 static uint32_t way_at(void *of, uint64_t core, uint64_t line, uint64_t nth, uint64_t *found) {
     uint64_t count = 0;
-    uint32_t code = lockup_ways((lockup_machine *)of, core, line, &count);
-    if (!code) code = lockup_way_at((lockup_machine *)of, core, line, place_of("ways", nth, count), found);
+    uint32_t code = lockup_ways((const lockup_machine *)of, core, line, &count);
+    if (!code) code = lockup_way_at((const lockup_machine *)of, core, line, place_of("ways", nth, count), found);
     spoil("way", found, 0);
     return code;
 }
 
 static uint32_t messages(void *of, uint64_t line, uint64_t *count) {
-    const uint32_t code = lockup_messages((lockup_machine *)of, line, count);
+    const uint32_t code = lockup_messages((const lockup_machine *)of, line, count);
     spoil_count("messages", count);
     return code;
 }
 
 static uint32_t message_at(void *of, uint64_t line, uint64_t nth, lockup_message *it) {
     uint64_t count = 0;
-    uint32_t code = lockup_messages((lockup_machine *)of, line, &count);
-    if (!code) code = lockup_message_at((lockup_machine *)of, line, place_of("messages", nth, count), it);
+    uint32_t code = lockup_messages((const lockup_machine *)of, line, &count);
+    if (!code) code = lockup_message_at((const lockup_machine *)of, line, place_of("messages", nth, count), it);
     if (is("junk", NULL) && it->channel == LOCKUP_HOME) it->core = 77;
     if (is("junk", NULL) && it->channel != LOCKUP_ACK) it->from = 77;
     if (is("junk", NULL) && it->channel != LOCKUP_FWD) it->requester = 77;

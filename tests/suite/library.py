@@ -275,7 +275,7 @@ class Raw:
         return self("make", ctypes.addressof(values))[0]
 
 
-OK, NO_MACHINE, OUT_OF_RANGE, NO_MEMORY, IN_USE = range(5)
+OK, NO_MACHINE, OUT_OF_RANGE, NO_MEMORY, IN_USE, NULL = range(6)
 # each function with a handle: words that are right on a machine of 2 cores, 1 slice and 16 lines, and of its output
 FUNCTIONS = {
     "issue": ([0, 0, 0, 0, 0, 0], 3), "evict": ([0, 0], 1), "deliver": ([0, 0, 0, 0], 1), "deliver_next": ([0, 5], 5),
@@ -390,6 +390,19 @@ int main(void) {{
         words = ["cc", "-x", language, "-", "-x", "none", f"-I{INCLUDE}", archive(), "-o", f"{room}/null"]
         same("the compiler", (0, "", ""), tuple(run([*words, "-Wall", "-Wextra", "-Wpedantic", "-Werror"], source)))
         same("output", (0, "", ""), tuple(run([f"{room}/null"])))
+
+
+def test_null_from_elsewhere() -> None:
+    """.. and a program that includes no header."""
+    buffer, functions = (ctypes.c_uint64 * 16)(*[77] * 16), ctypes.CDLL(shared())
+    for name, rows in header_parameters().items():
+        pointers = ["*" in it for it in rows]
+        function = getattr(functions, f"lockup_{name}")
+        function.argtypes = [ctypes.c_void_p if it else ctypes.c_uint64 for it in pointers]
+        fine = [ctypes.addressof(buffer) if it else int(row.startswith("size_t")) for it, row in zip(pointers, rows)]
+        for place in (at for at, it in enumerate(pointers) if it):
+            same(f"{name} {place}", NULL, function(*fine[:place], None, *fine[place + 1:]))
+    same("nothing is written", [77] * 16, [*buffer])
 
 
 def test_in_use() -> None:

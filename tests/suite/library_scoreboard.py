@@ -90,15 +90,6 @@ def test_agreement(dialect: str) -> None:
 
 
 @seconds(5)
-@each(lambda: ["c89", "c++98"])
-def test_unchecked(dialect: str) -> None:
-    """The headers stand without lockup_null.h."""
-    with tempfile.TemporaryDirectory() as room:
-        made = compiled(TWIN, dialect, f"{room}/twin", "-DLOCKUP_UNCHECKED")
-        judge_agreement(0, run([made, "0", str(CALLS), ALL]))
-
-
-@seconds(5)
 @each(lambda: ["junk", "unseen", "reverse registers", "reverse writebacks", "reverse messages",
                *(f"uncounted {what}" for what in LISTS)])
 def test_without_meaning(plant: str) -> None:

@@ -950,7 +950,7 @@ LOCKUP_INLINE uint32_t lockup_difference_text(const lockup_scoreboard *board, ch
     return lockup_put_end(&text);
 }
 
-/* A row of a script: words, and numbers behind them. */
+/* A row of a script: words, and numbers after them. */
 LOCKUP_INLINE void lockup_write_row(FILE *file, const char *words, const uint64_t *numbers, size_t count) {
     char row[LOCKUP_TEXT];
     lockup_text text = lockup_text_in(row, sizeof row);
@@ -990,7 +990,7 @@ LOCKUP_INLINE void lockup_write_call(const lockup_call *call, FILE *file, int ha
     fputs(row, file);
 }
 
-/* Writes the calls as a script, with `has_answers` as one of `lockup test`, which wants the answers of the model; behind
+/* Writes the calls as a script, with `has_answers` as one of `lockup test`, which wants the answers of the model; after
  * the call that differs a comment says what the design has. LOCKUP_NOT_RECORDED where a call was made under
  * LOCKUP_RECORD_NONE; LOCKUP_NOT_WRITTEN. */
 LOCKUP_INLINE uint32_t lockup_write_script(const lockup_scoreboard *board, FILE *file, int has_answers) {

@@ -81,7 +81,7 @@ def tag_of(contents: "Collection[bytes]") -> str:
 
 
 def licences() -> "dict[str, bytes]":
-    """Returns the texts of the licence by their names: they stand here, or in the folder above."""
+    """Returns the texts of the licence by their names: they are here, or in the folder above."""
     files = [it for folder in (HERE, HERE.parent) for it in sorted(folder.glob("LICENSE*")) if it.is_file()]
     return {it.name: it.read_bytes() for it in files}
 

@@ -34,7 +34,7 @@ class Answer(NamedTuple):
 
 
 def read(text: str) -> tuple[str, list[Query]]:
-    """Returns what stands before the queries, and the queries."""
+    """Returns what is before the queries, and the queries."""
     head, *rest = text.split("(push 1)\n")
     queries, before = [], head
     for part in rest:
@@ -86,7 +86,7 @@ def ask(solver: str, head: str, asserts: str, limit: int) -> Answer:
 
 
 def goals_of(head: str) -> dict[str, str]:
-    """Returns the parts of what a row has to keep: for each name how it is written behind the row."""
+    """Returns the parts of what a row has to keep: for each name how it is written after the row."""
     invariant = re.search(r"^\(define-fun invariant .*?\)\)\)$", head, re.M | re.S)
     parts = re.findall(r"\(([a-z0-9-]+) t\)", invariant[0])
     return {**{name: f"({name} after)" for name in parts}, **{name: name for name in OWED}}
@@ -138,7 +138,7 @@ def values_of(lines: Iterator[str], terms: list[str]) -> dict[str, str]:
 
 
 def counterexample(solver: str, head: str, asserts: str, limit: int) -> list[str]:
-    """Returns a state that makes the assertions true, and the one behind the row, for as few cores as it takes."""
+    """Returns a state that makes the assertions true, and the one after the row, for as few cores as it takes."""
     moments = ("before", "after") if "-row " in asserts else ("before",)
     for count in range(2, MOST_CORES + 1):
         terms = [term for moment in moments for term in terms_of(count, moment)]

@@ -3,7 +3,7 @@
 
   toy_simulator.py [--lost-update] [--count N] [--seed N]
 
-With --lost-update an add now and then reads its word before another core's access and writes it behind.
+With --lost-update an add now and then reads its word before another core's access and writes it after.
 """
 import argparse
 import random
@@ -42,7 +42,7 @@ class Simulator:
         self.memory, self.made = [0] * WORDS, [0] * CORES
 
     def access(self, it: Access) -> Iterator[str]:
-        """Performs an access. Returns its entry of a trace, behind those of what it lets in."""
+        """Performs an access. Returns its entry of a trace, after those of what it lets in."""
         before = self.memory[it.word]
         if it.lets_in:
             yield from self.access(it.lets_in)

@@ -74,7 +74,7 @@ def run(words: Sequence[str], text: Optional[bytes] = None) -> Said:
     if ran.returncode == NO_MEMORY:
         raise NoMemory(NO_MEMORY, err.strip())
     if ran.returncode not in (FINE, FORBIDDEN) or not out:
-        # hints on the command line stand behind an empty line
+        # hints on the command line follow an empty line
         said = err.partition("\n\n")[0].strip()
         raise ProgramFailed(ran.returncode, said or f"lockup ended with {ran.returncode}")
     return Said(out, err)

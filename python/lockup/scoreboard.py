@@ -41,7 +41,7 @@ class Scoreboard:
         self._machine = Machine(config, init, counters, **fields)
         self._counts: Optional[List[int]] = [0] * len(CELLS) if coverage else None
         self._differs: Optional[Differs] = None
-        # what stands in the script, and behind a command its answer
+        # what is in the script, and after a command its answer
         self._rows: Optional[List[Tuple[str, str]]] = None
         self._last = ""
         if record:

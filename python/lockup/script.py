@@ -86,7 +86,7 @@ class Script(NamedTuple):
         return self.head() + "".join(f"{row_of(str(it), answer)}\n" for it, answer in zip(self.commands, answers))
 
     def answers(self, of: Callable[[Machine], Caches] = lambda it: it) -> List[str]:
-        """Returns what a machine answers, or what stands before one."""
+        """Returns what a machine answers, or what is before one."""
         with self.make() as machine:
             caches = of(machine)
             return [answer_of(caches, it) for it in self.commands]

@@ -11,14 +11,14 @@ r"""Reads and runs the cases of tests/cases, each of which is one file, NAME.cas
     lockup: line 2: not a command
     === status 2
 
-The line `$ lockup` has the arguments, with quotes as in a shell. A section is the lines behind `=== NAME`:
+The line `$ lockup` has the arguments, with quotes as in a shell. A section is the lines after `=== NAME`:
 
 - `input`: what standard input has; without it, nothing.
 - `output`, `error`, `status N`: what is wanted; without them no output, no error text and status 0.
 - `output to FILE`: standard output is this file, in place of being compared.
 - any other name: a file, which is there while the case runs, and whose path stands for {NAME} in the arguments.
 
-Words behind a comma say how the section's text comes of its lines:
+Words after a comma say how the section's text comes of its lines:
 
 - `, escaped`: \r, \t, \\, and \xHH for the byte HH. A line that ends in `\` has no line feed, as a last line may.
 - `, by bash`: it is what `bash` prints for these lines.

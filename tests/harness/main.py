@@ -109,7 +109,7 @@ def main(words: list[str]) -> int:
         print("0 passed, 1 failed")
         return 1
     with tempfile.TemporaryDirectory(prefix="lockup-test-", ignore_cleanup_errors=True) as room:
-        # all folders of tests stand in this one, so none is left, whatever becomes of a process
+        # all folders of tests are in this one, so none is left, whatever becomes of a process
         tempfile.tempdir = room
         counts = run_tests(tests, options) if options.cases else run_all_and_gate(tests, options)
         tempfile.tempdir = None

@@ -1,8 +1,8 @@
-"""What pages and waves have to show of a script: behind each command, what `state`, `waiting` and
+"""What pages and waves have to show of a script: after each command, what `state`, `waiting` and
 `show` print.
 
 It comes from a script of its own: the script with `state` of each line named so far, `waiting` and
-`show` behind each command.
+`show` after each command.
 """
 from typing import NamedTuple
 
@@ -42,7 +42,7 @@ deliver fwd 0 0
 
 
 class States(NamedTuple):
-    """What is there behind a command: the states of the lines named so far, the messages in flight,
+    """What is there after a command: the states of the lines named so far, the messages in flight,
     and what isn't at rest."""
 
     lines: list[str]
@@ -79,7 +79,7 @@ class Reader:
 
 
 def states_of(script: str) -> tuple[list[str], list[States]]:
-    """Returns the script's commands, and the states behind each."""
+    """Returns the script's commands, and the states after each."""
     config, commands = split(script)
     size = next((int(it.split()[1]) for it in config if it.split()[0] == "lines"), 16)
     named, asked, counts = [], list(config), []

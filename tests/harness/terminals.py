@@ -6,7 +6,7 @@ import threading
 from pathlib import Path
 from typing import Mapping, Sequence
 
-# what is written behind the last byte of a program, none of which writes it
+# what is written after the last byte of a program, none of which writes it
 END = b"\0"
 
 
@@ -15,7 +15,7 @@ def shown_at_terminal(
 ) -> tuple[bytes, int]:
     """Returns what a terminal shows of a program and of what is typed, and the program's status.
 
-    Its end stays open until the mark behind the last byte has been read: where a program's is the
+    Its end stays open until the mark after the last byte has been read: where a program's is the
     last to be closed, Linux may lose what was written just before.
     """
     ours, theirs = pty.openpty()

@@ -1,4 +1,4 @@
-"""Builds the program for a browser, by tools/browser: the tests of `browser` and `playground` run it. Behind the gate it is of
+"""Builds the program for a browser, by tools/browser: the tests of `browser` and `playground` run it. After the gate it is of
 the module that LLVM was handed of the proved program."""
 from harness import ROOT, seconds, want
 from harness.browser import folder

@@ -1,5 +1,5 @@
 """Walks side by side and in parts: whatever the number of jobs, and however rounds are shared out and put together again,
-what is printed is what one walk of all rounds prints, byte for byte. So it is of a walk that goes on behind the parts it left.
+what is printed is what one walk of all rounds prints, byte for byte. So it is of a walk that goes on after the parts it left.
 
 Parts are of stretches of seeds, also shuffled, one file or many. What can't be merged is refused by the file's name and the
 reason: parts of another test, another limit, another version, a round that is counted twice, a changed part. A part that is
@@ -170,7 +170,7 @@ def test_a_killed_worker() -> None:
 
 @seconds(60)
 def test_a_walk_goes_on() -> None:
-    """Behind the whole parts of what was left, a walk prints what it would have printed at once."""
+    """After the whole parts of what was left, a walk prints what it would have printed at once."""
     rounds = 100_300
     with tempfile.TemporaryDirectory() as room:
         wanted = walk(7, rounds, "--part", jobs=4)
@@ -190,7 +190,7 @@ def test_what_is_known_is_not_walked() -> None:
 
 
 def test_parts_of_other_rounds() -> None:
-    """A walk goes on behind its own first parts alone."""
+    """A walk goes on after its own first parts alone."""
     with tempfile.TemporaryDirectory() as room:
         for name, text in (("seed", made(2, 100_000)), ("count", made(1, 100)), ("more", made(1, 100_000) + made(100_001, 100_000)),
                            ("limit", made(1, 100_000).replace("limit none", "limit 1000"))):

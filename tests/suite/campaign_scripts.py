@@ -340,7 +340,7 @@ def test_run_slurm() -> None:
 
 @seconds(60)
 def test_a_job_is_put_back_into_the_queue() -> None:
-    """It goes on behind the parts that it had."""
+    """It goes on after the parts that it had."""
     needs("sbatch", "sinfo", "squeue", "scancel", "scontrol", "awk")
     rounds = 1_000_000
     with tempfile.TemporaryDirectory() as room, slurm_cluster(room) as cluster:

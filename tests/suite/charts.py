@@ -6,7 +6,7 @@ answers:
 - an error is the script's;
 - there is an arrow for each message that the script's machine counts, and a cross for each that is
   blocked;
-- all other answers stand in notes and crosses, word for word, in order, beside the core that they
+- all other answers are in notes and crosses, word for word, in order, beside the core that they
   are for;
 - data come from the core that was asked for them, or else from the directory;
 - the notes of changes lead from state to state, and to what `state` shows.

@@ -19,7 +19,7 @@ Cell = tuple[str, str, str, str]
 # ---- from the explained answers
 
 def outcome_of(event: str, effects: str) -> str | None:
-    """Returns what follows of an event by the words behind its case, or None where it never came to the table."""
+    """Returns what follows of an event by the words after its case, or None where it never came to the table."""
     if to := re.match(r"(?:hit; |primary miss; )?to (\w+)", effects):
         return to[1]
     if effects == "secondary miss; joins":
@@ -226,7 +226,7 @@ def test_seeds_begin_again_behind_the_last() -> None:
 
 
 def test_rounds_that_are_given_up() -> None:
-    """Each goes as far as it may, also behind one that was given up."""
+    """Each goes as far as it may, also after one that was given up."""
     text = read(ROOT / MP)
     lengths = sorted(sum(map(is_command, it.out.splitlines())) for it in rounds_of(text, 12, 1))
     for most in ("1", str(lengths[0] - 1), str(lengths[6])):

@@ -4,7 +4,7 @@ next word of the generator draws from what may come next, and there is no furthe
 
 Programs are drawn at random: of one to four cores and slices, small arrays and miss files, with and without the
 exclusive state, with one access of a core under way and with several, with waits, with and without deliveries that each
-slice makes behind an access; and over more than 32 lines of a slice, where rings are kept short. Without that rule, or
+slice makes after an access; and over more than 32 lines of a slice, where rings are kept short. Without that rule, or
 with another number in it, another move would be drawn, which a test of its own asks for.
 """
 import random
@@ -71,7 +71,7 @@ class Run:
         self.text, self.account, self.generator, self.tidies = text, Account(text.setting), Generator(seed), tidies
         self.programs = [Program(it.core, it.steps) for it in text.programs]
         self.most, self.calls, self.moves = text.outstanding or 1, [], 0
-        # how many deliveries each slice has still to make behind an access
+        # how many deliveries each slice has still to make after an access
         self.owed = [0] * text.setting.slices
 
     def may_ask(self, it: Program) -> bool:
@@ -189,7 +189,7 @@ def test_run(_: str, seed: int, lines: int, steps: int, pace: int | None = None)
 
 @seconds(5)
 def test_the_rule_tells_enough() -> None:
-    """Without the rule that keeps rings short, or behind every 31st move, with another bound or for rings of any length,
+    """Without the rule that keeps rings short, or after every 31st move, with another bound or for rings of any length,
     some run draws another move."""
     others: dict[str, Tidies] = {
         "no rule": lambda moves, of: False,

@@ -8,7 +8,7 @@ what the program does.
   which two differ by 2^32 alone.
 - A walk of more than 100,000 calls comes to its end, and one of more than a million moves.
 - A walk with a limit makes the first moves of the walk without, and is given up before its last.
-- Seeds go on behind 2^64 - 1 with 0.
+- Seeds go on after 2^64 - 1 with 0.
 - `lockup run` does other things with seeds that differ by 2^32 alone.
 - The turns of a thread: a test whose one thread needs no turns but those that are drawn is stuck in
   the first round that draws more of them than the limit. So is one whose thread is another core's.
@@ -61,13 +61,13 @@ def threads_of(text: str) -> list[Thread]:
         elif words[:1] == ["settle"] or words[:1] == ["evict"]:
             threads[-1].steps.append(words)
         elif words and words[0] in ACCESSES:
-            # all but a store have a name behind their numbers
+            # all but a store have a name after their numbers
             threads[-1].steps.append(words if words[0] == "store" else words[:-1])
     return threads
 
 
 class Seen:
-    """What is seen behind a call: its answer, what waits to be delivered, and each slice's log."""
+    """What is seen after a call: its answer, what waits to be delivered, and each slice's log."""
 
     def __init__(self, answer: str | None, waiting: list[str], logs: list[list[list[str]]]) -> None:
         self.answer, self.waiting, self.logs = answer, waiting, logs
@@ -103,7 +103,7 @@ def answers_of(head: list[str], commands: list[str]) -> list[list[str]]:
 
 
 def seen_of(script: str, slices: int) -> tuple[list[tuple[str | None, str]], list[Seen]]:
-    """The comments and calls of a walk's script, and what is seen behind each call."""
+    """The comments and calls of a walk's script, and what is seen after each call."""
     looks = ["waiting", *(f"log {number}" for number in range(slices))]
     head, calls = parted(script)
     answers = answers_of(head, [line for _, call in calls for line in (call, *looks)])
@@ -152,7 +152,7 @@ class Walk:
         return note, " ".join(["issue", str(thread.core), str(tag), *step])
 
     def make(self, kind: str, what: int | str, seen: Seen | None) -> None:
-        """What a move leaves behind, where this was seen behind its call."""
+        """What a move leaves behind, where this was seen after its call."""
         before, self.seen = self.seen, seen or self.seen
         if kind == "hand":
             thread = self.threads[self.replies[what][0]]
@@ -202,7 +202,7 @@ def test_walk(_: str, path: Path, seed: int) -> None:
 
 
 def ran_on(text: str, *words: str) -> Ran:
-    """Runs a subcommand on a text: its name, and what stands behind the file."""
+    """Runs a subcommand on a text: its name, and what follows the file."""
     with tempfile.TemporaryDirectory() as room:
         return lockup(words[0], write(f"{room}/test.txt", text), *words[1:])
 

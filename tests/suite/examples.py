@@ -1,4 +1,4 @@
-"""Runs each example whose answers stand beside it: examples/NAME.txt prints examples/NAME.out, byte
+"""Runs each example whose answers are beside it: examples/NAME.txt prints examples/NAME.out, byte
 for byte, and no error. With --echo it prints the same, and each command before its answer; with
 --beside the rows of examples/beside, which shows all its answers. An example without answers is
 named by a case of tests/cases, which says what is wanted. Each stands in docs/EXAMPLES.md. Together they meet each cell of

@@ -1,4 +1,4 @@
-"""What stands behind an error where answers are explained: each row is an invalid line, the error,
+"""What follows an error where answers are explained: each row is an invalid line, the error,
 and what the program says was expected, worked out by hand from docs/TEXTS.md."""
 import tempfile
 

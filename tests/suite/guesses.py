@@ -1,4 +1,4 @@
-"""Opens pages of `lockup page --guess` in a browser: no answer is shown, nor what stands behind it, before
+"""Opens pages of `lockup page --guess` in a browser: no answer is shown, nor what follows it, before
 it was guessed or asked for."""
 import re
 

@@ -1,6 +1,6 @@
-"""What stands behind an error of programs, litmus tests, traces, exercises and configurations where
+"""What follows an error of programs, litmus tests, traces, exercises and configurations where
 `--explain` is given: each row is a text, the error, and the hint, worked out by hand from
-docs/TEXTS.md. Without `--explain` the error stands alone. Then why files can't be read, which
+docs/TEXTS.md. Without `--explain` the error is alone. Then why files can't be read, which
 command reads a text of another kind, and the remark where nothing is forbidden."""
 import os
 import tempfile
@@ -11,7 +11,7 @@ from harness import ROOT, Skipped, each, lockup, same, write
 PROGRAM_NAMES = "core, load, store, add, cas, settle, repeat, end, outstanding, pace, or a field of the configuration"
 TEST_NAMES = "thread, load, store, add, cas, settle, evict, forbid, rounds, movers, or a field of the configuration"
 OLD_TEST_NAMES = (TEST_NAMES.replace("cas, ", "") + "; cas where the first line is lockup-litmus 2")
-# behind lines 1 to 5
+# after lines 1 to 5
 PROGRAM = "cores 3\nlines 12\ncounter 9\ncore 0\nload 0\n"
 PROGRAMS = [
     ("laod 0", "not a command", f"'laod': {PROGRAM_NAMES}"),
@@ -58,7 +58,7 @@ WHOLE_PROGRAMS = [
     ("core 0\nrepeat 1000000\nload 0\nload 0\nend\n", 5, "out of range",
      "'end': all programs together have at most 1000000 accesses"),
 ]
-# behind lines 1 to 7
+# after lines 1 to 7
 TEST = "lockup-litmus 2\ncores 3\nlines 12\ncounter 9\nthread 0\nload 0 a\nadd 9 1 b\n"
 TESTS = [
     ("laod 0 c", "not a command", f"'laod': {TEST_NAMES}"),
@@ -106,7 +106,7 @@ WHOLE_TESTS = [
      "'a16': a test has at most 16 names"),
     ("lockup-litmus 1\nthread 0\n" + "settle\n" * 4097, 4099, "out of range", "'settle': a thread has at most 4096 steps"),
 ]
-# behind lines 1 to 4
+# after lines 1 to 4
 TRACE = "lockup-trace 1\ninit 8 1\ninit 10 1\nentry 0 0 0 load 8 1 0\n"
 TRACES = [
     ("enty 0 1 0 load 0 0 0", "not a command", "'enty': init or entry"),
@@ -144,7 +144,7 @@ EXERCISES = [
     ("state 0\nstate 16 =\n= x\n", 2, "out of range", "'16': a line, 0 to 15"),
     ("ways x\n= y\n", 1, "bad number", "'x': a number"),
 ]
-# the lines that configure, the error, and the hint; each of these also behind the first line of a litmus test
+# the lines that configure, the error, and the hint; each of these also after the first line of a litmus test
 CONFIGURATIONS = [
     ("cores 65\n", "1 Cores", "'65' in line {}: 1 to 64", 1),
     ("cores 3\ncores 0\n", "1 Cores", "'0' in line {}: 1 to 64", 2),

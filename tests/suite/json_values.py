@@ -312,7 +312,7 @@ def said_of(effect: dict) -> str:
 
 
 def entry_of(cell: dict) -> str:
-    """A directory's entry behind a row, in the table's words."""
+    """A directory's entry after a row, in the table's words."""
     owner, sharers = cell["next"]["owner"], cell["next"]["sharers"]
     before = cell["guard"]
     asks, others = before["requester_shares"], before["others_share"]

@@ -52,7 +52,7 @@ def test_long_waves() -> None:
 
 
 def shapes() -> list[str]:
-    """Returns lines that configure, each of them allowed behind those before it."""
+    """Returns lines that configure, each of them allowed after those before it."""
     rows = []
     for registers in range(1, 33):
         rows += [f"mshrs {registers}", *(f"targets {targets}" for targets in range(1, 33))]

@@ -9,7 +9,7 @@
 - Each code is met, changes nothing, and leaves zeros; a configuration is refused for its first field;
   each pointer of each function that is NULL is caught. A trace ends where it lacks memory.
 - A machine of 64 cores that all share lines, and its copy; each place of each list of the largest
-  machine; a trace of 6,000 entries, whose verdict is right behind each.
+  machine; a trace of 6,000 entries, whose verdict is right after each.
 - The Python module: its own examples, errors, what it refuses, the judge of traces beside `check`,
   and `pip install` without the network.
 - The prototypes of the Python module and of the SystemVerilog package are those of lockup.h, and so
@@ -737,7 +737,7 @@ def test_judge(name: str) -> None:
 
 @seconds(2)
 def test_a_long_trace() -> None:
-    """Behind each of 6,000 entries of 64 cores on a line each the verdict is legal, and behind a wrong one it stays."""
+    """After each of 6,000 entries of 64 cores on a line each the verdict is legal, and after a wrong one it stays."""
     library = module()
     with library.Judge(init={8 * number: number for number in range(6000)}) as judge:
         for number in range(6000):
@@ -786,7 +786,7 @@ def test_examples_of_the_module(part: str) -> None:
 
 
 def test_shown_python() -> None:
-    """What docs/LIBRARY.md shows prints what stands behind its prints."""
+    """What docs/LIBRARY.md shows prints what follows its prints."""
     module()
     blocks = re.findall(r"```python\n(.*?)```", read(ROOT / "docs/LIBRARY.md"), re.S)
     same("blocks", 6, len(blocks))

@@ -110,7 +110,7 @@ def test_a_limit() -> None:
 
 
 def test_judged_again() -> None:
-    """Accesses may come behind a judgement, and the reasons are those of the last."""
+    """Accesses may come after a judgement, and the reasons are those of the last."""
     raw = Raw()
     same("new", OK, raw("judge_new")[0])
     same("a store of 5", OK, added(raw, core=0, op=1, word=3, operand=5))

@@ -149,7 +149,7 @@ TITLES = {"mp.txt": "mp", "plain": "plain", "two.parts.txt": "two", "of two\nlin
 
 @each(lambda: [(title, file, title) for file, title in TITLES.items()])
 def test_page(_: str, file: str, title: str) -> None:
-    """The page of a walk is that of its script, behind its name and seed."""
+    """The page of a walk is that of its script, after its name and seed."""
     with tempfile.TemporaryDirectory() as room:
         words = ("walk", write(f"{room}/{file}", read(FOLDER / "mp.txt")), "--seed", "10")
         script, page = lockup(*words, "--script"), lockup(*words, "--page")

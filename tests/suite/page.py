@@ -2,7 +2,7 @@
 program prints.
 
 For each script the page of `lockup page` is looked at as JSON, and then opened in chromium without
-a window, where every step is shown of every line, and what stands there is read:
+a window, where every step is shown of every line, and what is there is read:
 
 - the value's data are at each step what `state`, `waiting` and `show` print, also at each delivery
   of a pump, which are delivered one by one for it;
@@ -796,7 +796,7 @@ tell(all('figure').map(it => ({ text: it.textContent, states: texts('.letters', 
 
 @seconds(3)
 def test_on_paper() -> None:
-    """A picture for each step in which something happened, with the states behind it and what is in
+    """A picture for each step in which something happened, with the states after it and what is in
     flight."""
     read = read_in_a_browser(A_RACE, PRINT)
     pictures = [

@@ -353,7 +353,7 @@ def cells_of(text: str) -> list[list[str]]:
 @seconds(5)
 @each(lambda: ["off", "on"])
 def test_tables_without_e(exclusive: str) -> None:
-    """With `exclusive off` what stands there, but what is grey, is what `table` prints without E."""
+    """With `exclusive off` what is there, but what is grey, is what `table` prints without E."""
     option = ["--exclusive"] if exclusive == "on" else []
     wanted = [*cells_of(lockup("table", "cache", *option).out), *cells_of(lockup("table", "directory", *option).out)]
     with page(f"exclusive {exclusive}\nissue 0 0 load 0\n", "#step=1") as it:

@@ -1,4 +1,4 @@
-"""Reads every word of a page's drawing and of what stands beside it in a real browser, and compares it with the
+"""Reads every word of a page's drawing and of what is beside it in a real browser, and compares it with the
 explained answers of the script (`lockup script --explain`):
 
 - the letters of each bar are its state, and stand beside it; the label of each arrow is its message, with the words that

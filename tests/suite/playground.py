@@ -15,7 +15,7 @@ what comes of it with what the program under test says of the same script.
   too much, is refused; the page's policy lets no network and no code of others in, and nobody is asked for anything;
 - its memory doesn't grow over 1,000 clicks;
 - its code has nothing that browsers of 2023 lack;
-- on a telephone, a tablet and a desk nothing is cut or stands behind something else.
+- on a telephone, a tablet and a desk nothing is cut or covered.
 """
 import base64
 import json
@@ -430,7 +430,7 @@ def test_settings(browser: str) -> None:
 @seconds(5)
 @in_each_browser
 def test_an_invalid_line(browser: str) -> None:
-    """Its error stands beside it with the hint, and the steps before it are there."""
+    """Its error is beside it with the hint, and the steps before it are there."""
     with page(browser) as it:
         it.get("document.getElementById('script').focus()")
         it.key("End", CTRL)
@@ -447,7 +447,7 @@ def test_an_invalid_line(browser: str) -> None:
             document.querySelector('#numbers .bad').getBoundingClientRect().bottom]""")
         want(0 <= top - line < 12, f"the error is at {top}, and the line ends at {line}")
         same("steps before it", "1 of 1", it.get(STEP))
-        # what is done goes on behind the last step; and what was typed just now isn't lost
+        # what is done goes on after the last step; and what was typed just now isn't lost
         it.do('[data-issue="0 load"]')
         same("behind it", ["state 0", "issue 0 0 load 0"], it.commands())
         it.click("#script")

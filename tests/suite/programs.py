@@ -5,9 +5,9 @@ causes.
 
 A core with several accesses under way has as many stalls for want of a miss register as a small
 simulation counts, which is written here. What `run --script` prints is run by `lockup script`: its
-answers come to the counts of the report, and what waits behind each of its moves to the most and the
+answers come to the counts of the report, and what waits after each of its moves to the most and the
 mean of registers and targets. What `run --page` prints is that script's page. What `run --json` prints
-has each number of the tables under its name. Where slices make deliveries behind each access, the moves
+has each number of the tables under its name. Where slices make deliveries after each access, the moves
 that delivered are the script's deliveries that were answered so."""
 import csv
 import json
@@ -164,7 +164,7 @@ def test_the_option_and_the_line() -> None:
 
 @each(lambda: [(f"{registers} registers", registers) for registers in (1, 2, 8)])
 def test_the_pace(_: str, registers: int) -> None:
-    """Behind each access its request and its data are delivered, so that none stalls. The option is the line, and stands
+    """After each access its request and its data are delivered, so that none stalls. The option is the line, and stands
     for it; 0 is as if none were given."""
     option = parallel(registers, 8, 16)
     line = option.replace("outstanding", "pace 2\noutstanding")
@@ -247,7 +247,7 @@ def test_schedule(name: str) -> None:
 
 @each(lambda: ["ping_pong", "parallel_misses"])
 def test_page(name: str) -> None:
-    """The page of a run is that of its script, behind its name and seed."""
+    """The page of a run is that of its script, after its name and seed."""
     words = ("run", FOLDER / f"{name}.txt", "--seed", "3", "--outstanding", "2")
     script, page = lockup(*words, "--script"), lockup(*words, "--page")
     same("status and error", (script.status, script.err), (page.status, page.err))
@@ -264,7 +264,7 @@ def test_a_schedule_is_printed_alone(words: str) -> None:
 
 
 def in_use(calls: list[tuple[list[str], list[str]]], cores: int, slices: int) -> list[dict[str, int]]:
-    """What waits behind each move of a script: an access, or a delivery with the replies that it brings."""
+    """What waits after each move of a script: an access, or a delivery with the replies that it brings."""
     lines, usages = {}, [Counter() for _ in range(cores)]
     for at, (command, answer) in enumerate(calls):
         core = int(command[1]) if command[0] != "deliver" else None

@@ -1,8 +1,8 @@
 """Watches a long run as somebody at a terminal does: standard error is a pseudo-terminal, which is
 told how far it is.
 
-Behind rounds 1, 2, 5, 10, 20, 50, 100, 200 and each 500 but the last stands how many of them are done,
-on one line, behind each 65,536 moves of programs how many of their steps are taken, and behind the rows
+After rounds 1, 2, 5, 10, 20, 50, 100, 200 and each 500 but the last stands how many of them are done,
+on one line, after each 65,536 moves of programs how many of their steps are taken, and after the rows
 that are written together, but the last, how many rows are. Where nobody watches nothing is said.
 """
 import re

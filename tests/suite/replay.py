@@ -1,7 +1,7 @@
 """Replays what a model checker prints of a run of the protocol's model (`lockup script
 --from-murphi`).
 
-A trace written by hand becomes the script that stands beside it, and a text that tells of no rule
+A trace written by hand becomes the script that is beside it, and a text that tells of no rule
 is no trace. Then Rumur searches the models that the program prints for a state that a core can come
 to: the way there, as a script, leads a machine to that state, and each of its messages is moved.
 And it finds no state in which a sharer asks to read, as the legend of the directory's table says.

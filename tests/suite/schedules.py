@@ -2,7 +2,7 @@
 
 Eight cores meet on four lines of two slices, and each core's array of a slice has room for one
 line. Scripts of twenty seeds with 5000 calls each run with both kinds of miss registers, with and
-without the exclusive state. Behind each call the script shows the state of each line. What is
+without the exclusive state. After each call the script shows the state of each line. What is
 looked for:
 
 - at any time one core may write a line and no other may read it, or none may write it;
@@ -95,7 +95,7 @@ def draw_calls(seed: int) -> Iterator[str]:
 
 
 def commands_of(seed: int, calls: int) -> Iterator[str]:
-    """The calls, each with a look at all lines behind it, then all that is still under way, and all
+    """The calls, each with a look at all lines after it, then all that is still under way, and all
     there is to see."""
     states = [f"state {line}" for line in range(LINES)]
     for call in itertools.islice(draw_calls(seed), calls):

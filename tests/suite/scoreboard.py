@@ -352,7 +352,7 @@ def shown(value: object) -> object:
 
 @each(lambda: [(f"{number} {row[0]}", *row) for number, row in enumerate(ANSWERS)])
 def test_answers(_: str, name: str, numbers: tuple, answered: Any, wanted: tuple) -> None:
-    """.. and the script has the machine's answer, and behind it the design's."""
+    """.. and the script has the machine's answer, and after it the design's."""
     library = module()
     with begun(library) as board:
         call = getattr(board, {"deliver_next": "expect_next"}.get(name, f"expect_{name}"))

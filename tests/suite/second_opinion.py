@@ -66,10 +66,10 @@ BEFORE_THE_TABLE = ("joins", "stalls", "busy", "not held")
 @each(lambda: SETTINGS)
 def test_each_cell_of_a_cache(setting: str) -> None:
     wanted = {name: cell for name, cell in cells_of("cache", setting).items() if cell not in BEFORE_THE_TABLE}
-    # what stands behind the cells is asked once more, in other words
+    # what follows the cells is asked once more, in other words
     found = dict(reversed(re.findall(r"^; ([A-Z_]+, [^:\n]+): (.*)\n(?=\n|\(push)", printed(setting), re.M)))
     if setting == "off":
-        # blocked where there is the exclusive state: these have a query behind the others
+        # blocked where there is the exclusive state: these have a query after the others
         for name in ("IS_D, Fwd-GetS", "IS_D, Fwd-GetM"):
             same(name, "blocked", found.pop(name))
             same(f"{name} in the table", "-", wanted.pop(name))
@@ -163,8 +163,8 @@ def test_each_row_is_taken(setting: str) -> None:
         same(f"answers of {solver}", wanted, answers(solver, head, asked))
 
 
-# A cell, a word of its row and what stands in its place, and the part of the invariant that breaks. Each was thought
-# of beforehand: why it breaks stands behind it.
+# A cell, a word of its row and what is in its place, and the part of the invariant that breaks. Each was thought
+# of beforehand: why it breaks follows it.
 CHANGED = [
     # an invalidated copy stays readable
     ("S, Inv", "send-Inv-Ack I", "send-Inv-Ack S", "reader-fits"),
@@ -210,7 +210,7 @@ CHANGED = [
 
 
 def changed(cell: str, old: str | None, new: str) -> tuple[str, str]:
-    """Returns what stands before the queries, and the assertions of a cell whose row is changed. A cell that is blocked
+    """Returns what is before the queries, and the assertions of a cell whose row is changed. A cell that is blocked
     gets a row."""
     text = printed("off")
     head, queries = smt.read(text)

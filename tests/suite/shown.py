@@ -1,5 +1,5 @@
 """Runs each command that the documents show with its output, and compares: a line '$ COMMAND' in a
-block of code, and the lines behind it, in which '..' stands for lines that are left out. The
+block of code, and the lines after it, in which '..' stands for lines that are left out. The
 commands run at the top of the repository, with the program under test for './lockup'."""
 import re
 from typing import Iterator

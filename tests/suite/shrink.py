@@ -17,7 +17,7 @@ from harness.library import module, part_of, shared
 from suite.scoreboard import Design, drawn, held, setting_of, want_tested
 
 COSIM = ROOT / "examples/cosim"
-# how long scripts are before, at most, and behind
+# how long scripts are before, at most, and after
 CALLS = 400
 SHORT = 20
 

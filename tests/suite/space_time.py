@@ -5,7 +5,7 @@ its sending and its delivery; each bar is a state and the row from which it hold
 or an access in vain. What is expected is worked out from the explained answers, message by message.
 
 So is each word of it: the letters of a bar are its state; an arrow's label is its message, with the requester of a
-forwarded one; a ring has the state for which the message waits, or the answer; what was performed stands behind its
+forwarded one; a ring has the state for which the message waits, or the answer; what was performed follows its
 row, as the log has it; and at the left edge stand the commands, numbered.
 """
 import re
@@ -48,7 +48,7 @@ class Picture:
         self.read_words(list(root))
 
     def read_words(self, parts: list) -> None:
-        """Reads the text behind each arrow, bar and ring, and those of what was performed."""
+        """Reads the text after each arrow, bar and ring, and those of what was performed."""
         self.labels, self.letters, self.waits, self.performed = [], [], [], []
         for it, text in zip(parts, [*parts[1:], None]):
             if it.tag == f"{SVG}line" and it.get("marker-end"):
@@ -75,7 +75,7 @@ class Picture:
         return it.text
 
     def beside(self, it, who: str) -> None:
-        """A text stands beside its lifeline: left of the directory's, and right of a core's."""
+        """A text is beside its lifeline: left of the directory's, and right of a core's."""
         life = next(at for at, name in self.names.items() if name == who)
         side = "left" if who == "directory" else "right"
         same(f"where '{it.text}' stands", (side, life + (14 if side == "right" else -14)),

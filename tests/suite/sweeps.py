@@ -1,7 +1,7 @@
 """Runs sweeps: each row has the program's name, all settings, the seed, and the numbers that `lockup
-run --json` prints of the run of the text with these settings and the seed; the rows stand in their
+run --json` prints of the run of the text with these settings and the seed; the rows are in their
 order, and what can't be run is refused: an error names the line of the text, as `lockup run` does,
-behind the row's settings and seed. Rows are run by several threads at once, each of which runs many
+after the row's settings and seed. Rows are run by several threads at once, each of which runs many
 where they are short, and are written as they are made. And generates each workload: `lockup run`
 takes it."""
 import csv
@@ -135,7 +135,7 @@ def test_the_name_of_the_program(name: str) -> None:
 
 
 def test_rows_put_together() -> None:
-    """Behind one heading, whatever the texts count."""
+    """After one heading, whatever the texts count."""
     with tempfile.TemporaryDirectory() as room:
         one, other = str(write(f"{room}/one", "core 0\nload 0\n")), str(write(f"{room}/other", TEXT))
         head, *rows = lockup("run", one, "--set", "ways=1,2").out.splitlines()

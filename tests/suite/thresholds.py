@@ -24,7 +24,7 @@ Rows = list[tuple[str, str]]
 
 
 def ran_on(text: str, *words: str) -> Ran:
-    """Runs a subcommand on a text: its name, and what stands behind the file."""
+    """Runs a subcommand on a text: its name, and what follows the file."""
     with tempfile.TemporaryDirectory() as room:
         return lockup(words[0], write(f"{room}/text.txt", text), *words[1:])
 

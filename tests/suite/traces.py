@@ -1,9 +1,9 @@
 """Reads the traces that `lockup litmus --trace`, `walk --trace` and `run --trace` print.
 
 Each example of a litmus test and of programs is run on a machine of one, of two and of four slices. Where there are
-several, each slice's trace stands behind a line that names it. Each trace alone is legal by `lockup check`, and has
+several, each slice's trace follows a line that names it. Each trace alone is legal by `lockup check`, and has
 exactly the accesses that the text asks of the slice, each core's in its order, which are counted here from the text.
-The comment lines behind the trace of a round over threads say what a replay of its entries finds, which is written
+The comment lines after the trace of a round over threads say what a replay of its entries finds, which is written
 here: how many accesses each core has, and what each counter has at first, what is added to it, and what it has at the
 end.
 
@@ -22,7 +22,7 @@ WORDS_OF_LINE = 8
 SLICES = (1, 2, 4)
 HEADING = re.compile(r"^# slice (\d+)\n", re.M)
 TESTS, PROGRAMS = ROOT / "examples/litmus", ROOT / "examples/programs"
-# how many numbers stand behind the word of an access
+# how many numbers follow the word of an access
 VALUES = {"load": 0, "store": 1, "add": 1, "cas": 2}
 
 Access = tuple[str, ...]
@@ -77,7 +77,7 @@ def on_slices(text: str, slices: int) -> str:
 
 
 def parted(out: str, slices: int) -> list[str]:
-    """The traces of the slices, with the comments behind them."""
+    """The traces of the slices, with the comments after them."""
     if slices == 1:
         want(not HEADING.search(out), "one slice is named")
         return [out]

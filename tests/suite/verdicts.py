@@ -1,4 +1,4 @@
-"""What `check --explain` prints behind `illegal`, and the members that `check --json` has of it: the
+"""What `check --explain` prints after `illegal`, and the members that `check --json` has of it: the
 line of the wrong entry, the reply that was expected and the entry that wrote it, or what is out of
 order. Traces by hand, and drawn ones of which one entry is spoiled; what is wanted of these is
 found by a plain model of memory, which goes forward through the lines."""

@@ -1,4 +1,4 @@
-"""Reads each example's waves as a viewer does: behind each command, and behind each delivery of a
+"""Reads each example's waves as a viewer does: after each command, and after each delivery of a
 pump, they show what `state` and `waiting` print, and count what `show` prints. What doesn't change
 isn't told again.
 

@@ -156,7 +156,7 @@ def test_what_can_not_be_replayed() -> None:
 
 
 def test_a_message_that_a_changed_cell_blocks() -> None:
-    """It is told behind the steps, with the cell at which it waits."""
+    """It is told after the steps, with the cell at which it waits."""
     table = "| Directory | PutS of r |\n| S, sharers r | blocked |\n"
     plain = lockup("what-if", "--directory", "-", text=table)
     want(plain.status == 1 and plain.out.startswith(f"broken: {ENDS}\n"), plain.out)

@@ -16,7 +16,7 @@ dealt_line-lt lines slices local slice even inside below =
     mul-add-lt local slices slice (lines / slices) inside below in
     omega (arith, div-add-mod' lines slices)
 
--- the word at a place stands there
+-- the word at a place is there
 pub place_of-word_at : (c : Config) (place : Place) → IsAllowed c → IsInRange c place
     → place_of c (word_at c place) ≡ Some place
 place_of-word_at c place allowed inside =

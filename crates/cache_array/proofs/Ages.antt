@@ -19,7 +19,7 @@ use Rattle.cache_array.specs.Policy.{IsPreferred, prefers_of, moves_of, choice_o
 abbrev pub IsOlder : (Local → ℕ) → Local → Local → Type 0
 IsOlder age line other = age other < age line
 
--- each line is older than all behind it
+-- each line is older than all after it
 abbrev pub IsByAge : (Local → ℕ) → List Local → Type 0
 IsByAge age order = AllPairs (IsOlder age) order
 
@@ -34,7 +34,7 @@ aged : (age next : Local → ℕ) (xs : List Local) → All (λ line. next line 
 aged age next xs each order i j d lt within =
     omega (arith, each i d (omega arith), each j d within, order i j d lt within)
 
--- and one line stands behind the others, and is new
+-- and one line follows the others, and is new
 pub came_last : (age next : Local → ℕ) (line newest : Local) (xs : List Local) → is_line line newest ≡ true →
     ((other : Local) → next other ≡ cond (not (is_line line other)) (1 + age other) 0) → IsByAge age xs →
     IsByAge next (remove_key (is_line line) xs ++ newest ∷ [])

@@ -65,7 +65,7 @@ gone R apart line (x ∷ xs) pairs = by (is_line line x) refl (gone R apart line
         (AllPairs-head R x xs pairs k d within)
     by false is rest = All-cons (λ other. is_line line other ≡ false) x (remove_key (is_line line) xs) is rest
 
--- what a list keeps as one of its lines is taken out, and put behind the others
+-- what a list keeps as one of its lines is taken out, and put after the others
 abbrev pub AreApart : List Local → Type 0
 AreApart lines = AllPairs (λ line later. line.0 ≢ later.0) lines
 

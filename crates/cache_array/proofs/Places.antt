@@ -135,7 +135,7 @@ last_stays (x ∷ []) zero d one = refl
 last_stays (x ∷ z ∷ xs) zero d one = absurd (omega (arith, one))
 last_stays (x ∷ xs) (suc i) d one = ap (λ ys. x ∷ ys) (last_stays xs i d (omega (arith, one)))
 
--- an element with one behind it changes places with that one
+-- an element with one after it changes places with that one
 passed : {X : Type 0} (xs : List X) (i : ℕ) (d y : X) → length xs ≡ suc (suc i) →
     set (set xs i (get_or xs (suc i) d)) (suc i) y ≡ remove xs i ++ y ∷ []
 passed [] i d y two = absurd (omega (arith, two))

@@ -19,7 +19,7 @@ abbrev pub moved_to_end : {X : Type 0} → (X → Bool) → List X → List X
 moved_to_end test xs = remove_key test xs ++ option_to_list (find test xs)
 
 -- the order of the lines after one more event: a line comes in at the end, a use takes it to the end where uses move
--- lines, and the lines behind one that leaves close up
+-- lines, and the lines after one that leaves close up
 abbrev pub after_event : Bool → Event → List Local → List Local
 after_event moves (Inserted line) order = remove_key (is_line line) order ++ line ∷ []
 after_event moves (Used line) order = if moves then moved_to_end (is_line line) order else order

@@ -40,6 +40,6 @@ after_write slots line value =
 abbrev pub after_use : {V : Type 0} → Bool → List (Slot V) → Local → List (Slot V)
 after_use moves slots line = if moves then moved_to_end (holds line) slots else slots
 
--- the line's slot is gone, and those behind it close up
+-- the line's slot is gone, and those after it close up
 abbrev pub after_remove : {V : Type 0} → List (Slot V) → Local → List (Slot V)
 after_remove slots line = remove_key (holds line) slots

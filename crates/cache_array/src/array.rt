@@ -86,7 +86,7 @@ impl<V: Copy, P: Policy + Drop> CacheArray<V, P> {
         self.sets[self.set_index(line)].get(line)
     }
 
-    /// Where the line stands in its set, if the array holds it.
+    /// Where the line is in its set, if the array holds it.
     pub fn find(&self, line: Local) -> Option<usize>
         ensures way { result ≡ position (holds line) (slots_at self.now line) }
         ensures held { IsSome result ↔ IsSome (held_at self.now line) }
@@ -95,7 +95,7 @@ impl<V: Copy, P: Policy + Drop> CacheArray<V, P> {
         self.sets[self.set_index(line)].find(line)
     }
 
-    /// The value of a line that stands there in its set. It is no use of the line.
+    /// The value of a line that is there in its set. It is no use of the line.
     pub fn value(&self, line: Local, way: usize) -> &V
         requires { position (holds line) (slots_at self.now line) ≡ Some way }
         ensures { held_at self.now line ≡ Some result.now }
@@ -103,7 +103,7 @@ impl<V: Copy, P: Policy + Drop> CacheArray<V, P> {
         self.sets[self.set_index(line)].value(line, way)
     }
 
-    /// The value of a line that stands there in its set, to be changed in its slot. It is no use of the line.
+    /// The value of a line that is there in its set, to be changed in its slot. It is no use of the line.
     pub fn value_mut(&mut self, line: Local, way: usize) -> &mut V
         requires { position (holds line) (slots_at self.old line) ≡ Some way }
         ensures* lends { sem 𝓛 (LendsValue V.row P.row self.entry line result) }
@@ -176,7 +176,7 @@ impl<V: Copy, P: Policy + Drop> CacheArray<V, P> {
         self.touch_at(line, way);
     }
 
-    /// Uses a line that stands there in its set.
+    /// Uses a line that is there in its set.
     pub fn touch_at(&mut self, line: Local, way: usize)
         requires { position (holds line) (slots_at self.old line) ≡ Some way }
         ensures after { self.new ≡ with_slots self.old line

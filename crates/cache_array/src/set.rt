@@ -108,7 +108,7 @@ impl<V: Copy> Set<V> {
         &self.slots[way].value
     }
 
-    /// The value of the line, to be changed in its slot, which stands there.
+    /// The value of the line, to be changed in its slot, which is there.
     pub fn value_mut(&mut self, line: Local, way: usize) -> &mut V
         requires { position (holds line) self.old.slots ≡ Some way }
         ensures* lends { sem 𝓛 (LendsIn V.row self.entry line result) }
@@ -128,7 +128,7 @@ impl<V: Copy> Set<V> {
         }
     }
 
-    /// Puts the line in a slot behind the others.
+    /// Puts the line in a slot after the others.
     pub fn insert(&mut self, line: Local, value: V)
         requires { length self.old.slots < self.old.ways }
         ensures { self.new ≡ record self.old { slots = after_insert self.old.slots line value } }
@@ -136,8 +136,8 @@ impl<V: Copy> Set<V> {
         self.slots.push_reserved(Slot { line, value });
     }
 
-    /// Takes the line out; the slots behind it close up.
-    // It goes to the end first: most sets have few slots behind it, and those are passed at little cost.
+    /// Takes the line out; the slots after it close up.
+    // It goes to the end first: most sets have few slots after it, and those are passed at little cost.
     #[tactic(auto, using(crate::proofs::Places::removals))]
     #[inline(always)]
     pub fn remove(&mut self, line: Local) -> Option<V>
@@ -154,7 +154,7 @@ impl<V: Copy> Set<V> {
         Some(slot.value)
     }
 
-    /// Moves the slot of the line, which stands there, behind the others.
+    /// Moves the slot of the line, which is there, after the others.
     pub fn move_to_end(&mut self, line: Local, way: usize)
         requires { position (holds line) self.old.slots ≡ Some way }
         ensures { self.new ≡ record self.old { slots = after_use true self.old.slots line } }
@@ -220,7 +220,7 @@ fn some_allowed<V, F: Fn(&V) -> bool>(slots: &[Slot<V>], allowed: F) -> bool
     false
 }
 
-// Moves the slot behind those that follow it. Nothing moves where it is the last, and one slot is passed at less cost
+// Moves the slot after those that follow it. Nothing moves where it is the last, and one slot is passed at less cost
 // than several.
 fn move_to_end<V>(slots: &mut [Slot<V>], way: usize)
     requires { way < length slots.old }
@@ -237,7 +237,7 @@ fn move_to_end<V>(slots: &mut [Slot<V>], way: usize)
     }
 }
 
-// Moves the first slot behind the others. Were it inlined, a use that moves one slot or none would cost more.
+// Moves the first slot after the others. Were it inlined, a use that moves one slot or none would cost more.
 #[inline(never)]
 fn turn<V>(slots: &mut [Slot<V>])
     requires { 0 < length slots.old }

@@ -27,7 +27,7 @@ is_waiting copy_states.SM_AD = true
 is_waiting copy_states.SM_A = true
 is_waiting _ = false
 
--- The copy was evicted: it stands in the write-back buffer until its Put is acknowledged.
+-- The copy was evicted: it is in the write-back buffer until its Put is acknowledged.
 abbrev pub is_leaving : CopyState → Bool
 is_leaving copy_states.MI_A = true
 is_leaving copy_states.SI_A = true

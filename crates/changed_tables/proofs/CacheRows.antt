@@ -27,7 +27,7 @@ each_state P all copy_states.SI_A = all 9 copy_states.I (lit< tt)
 each_state P all copy_states.II_A = all 10 copy_states.I (lit< tt)
 each_state P all copy_states.E = all 11 copy_states.I (lit< tt)
 
--- every message stands in the list where acknowledgements aren't counted
+-- every message is in the list where acknowledgements aren't counted
 each_message : (P : CacheSends → Type 0) → All P (sends_at cases.Load) → (sent : CacheSends) → P sent
 each_message P all cache_sends.Nothing = all 0 cache_sends.Nothing (lit< tt)
 each_message P all cache_sends.GetS = all 1 cache_sends.Nothing (lit< tt)

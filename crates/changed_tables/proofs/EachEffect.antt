@@ -72,7 +72,7 @@ module _ (m h s o d n : ℕ) (is : n ≡ 144 * m + 72 * h + 18 * s + 6 * o + d)
   shares_digit : n % 6 ≡ d
   shares_digit = omega arith
 
--- what stands at its digits
+-- what is at its digits
 made_of : (n : ℕ) (does : DirEffect) → slice_index_or all_messages (n / 144 % 7) messages.Nothing ≡ does.sends
     → (n / 72 % 2 == 1) ≡ does.writes_home → slice_index_or all_states (n / 18 % 4) dir_states.I ≡ does.state
     → slice_index_or all_owns (n / 6 % 3) owns.Nobody ≡ does.owns

@@ -1,9 +1,9 @@
--- A word that is two texts, one behind the other.
+-- A word that is two texts, one after the other.
 use Rattle.std.proofs.Common.{◌≡◌, ◌≢◌, ◌++◌, ◌∙◌, ℕ, List, Bool, false, true, ap, sym}
 use Rattle.std.proofs.lemmas.List.Prefix.{front_rest}
 use Rattle.std.specs.Bool.{Decides}
 
--- behind the first text stands the second
+-- after the first text stands the second
 pub with_rest : (word first second rest : List ℕ) (same : Bool) → word ≡ first ++ rest → Decides same (rest ≡ second)
     → Decides same (word ≡ first ++ second)
 with_rest word first second rest same is decides = (

@@ -6,7 +6,7 @@ use Rattle.std.specs.List.{flat_map, range_with_len}
 places_from : (i n : ℕ) → i < n → range_with_len i (n - i) ≡ range_with_len i (suc (n - (i + 1)))
 places_from i n below = let left : n - i ≡ suc (n - (i + 1)) = omega arith in rw left
 
--- one piece more, and the places behind it
+-- one piece more, and the places after it
 pub next_place : {X : Type 0} (piece : ℕ → List X) (old new all : List X) (i n : ℕ) → i < n
     → old ++ flat_map piece (range_with_len i (n - i)) ≡ all → new ≡ old ++ piece i
     → new ++ flat_map piece (range_with_len (i + 1) (n - (i + 1))) ≡ all

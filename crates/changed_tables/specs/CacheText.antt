@@ -85,7 +85,7 @@ pub record IsRefused (exclusive : Bool) (state : CopyState) (case : CacheCase) (
 
 -- ---- cells of a text
 
--- a line of a state: its name, and behind it maybe the setting without which no copy comes to the state
+-- a line of a state: its name, and after it maybe the setting without which no copy comes to the state
 abbrev pub IsLine : CopyState → List ℕ → Type 0
 IsLine state name = (name ≡ name_of state) ⊎ (name ≡ name_of state ++ codes " (exclusive on)")
 

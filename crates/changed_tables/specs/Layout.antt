@@ -1,4 +1,4 @@
--- The cells of a text that shows tables. Words stand between bars, and a line counts if it begins with a bar. A heading
+-- The cells of a text that shows tables. Words are between bars, and a line counts if it begins with a bar. A heading
 -- names its table and has the titles of the columns. Each further line has a name, and a cell under each title.
 use Rattle.std.specs.Prelude.{ℕ, ◌+◌, ◌-◌, ◌==◌, ◌||◌, ◌&&◌, not, nat_lt, nat_eq, Bool, List, [], ◌∷◌, ◌++◌, length, map}
 use Rattle.std.specs.Prelude.{codes, if◌then◌else◌, slice_index_or}
@@ -26,7 +26,7 @@ word_at words i = slice_index_or words i []
 abbrev pub is_empty : List ℕ → Bool
 is_empty word = length word == 0
 
--- what stands before the first bar, between bars, and behind the last
+-- what is before the first bar, between bars, and after the last
 abbrev pub words_of : List ℕ → Words
 words_of line = map trimmed (slice_split (λ byte. byte == 124) line)
 
@@ -83,7 +83,7 @@ cell_of line titles words i =
       word = word_at words i;
     }) ∷ []
 
--- a line's cells: the words behind its name
+-- a line's cells: the words after its name
 abbrev pub cells_along : ℕ → Words → Words → List Cell
 cells_along line titles words = flat_map (cell_of line titles words) (range_with_len 2 (length words - 2))
 

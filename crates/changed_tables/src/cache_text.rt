@@ -1,4 +1,4 @@
-//! What a printed table of a private cache says. A text is two pieces, one behind the other.
+//! What a printed table of a private cache says. A text is two pieces, one after the other.
 
 ghost use Rattle.std.specs.Prelude.{◌≡◌, ◌++◌, ◌↔◌, IsTrue};
 ghost use Rattle.std.specs.Option.{option_map};

@@ -6,7 +6,7 @@ ghost use Rattle.changed_tables.specs.Word.{trimmed};
 
 use std::alloc::{AllocError, Global};
 
-/// Whether the word is both texts, one behind the other.
+/// Whether the word is both texts, one after the other.
 pub(crate) fn is_joined(word: &[u8], first: &str, second: &str) -> bool
     ensures { IsTrue result ↔ (word.now ≡ first.now ++ second.now) }
 {

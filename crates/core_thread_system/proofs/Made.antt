@@ -307,7 +307,7 @@ pub is-step-at : (P : Step → Type 0) (program : List Step) (place : ℕ) (step
 is-step-at P program place step within holds =
     subst (λ found. IsSomeAnd found P) (sym (slice_get-get_or program place step within)) holds
 
--- Where the step at a place settles, no tag is in flight behind it.
+-- Where the step at a place settles, no tag is in flight after it.
 pub settled-at : (program : List Step) (place at : ℕ) (step : Step) (v : CoreView) → place < length program
     → at + 1 ≡ place + 1 → slice_get program at ≡ Some steps.Settle
     → IsSettledBy v (slice_index_or program place step) → v.tags ≡ 0

@@ -1,4 +1,4 @@
--- A list of which one element after the other is changed in its place, and what stands at an element's rank among those
+-- A list of which one element after the other is changed in its place, and what is at an element's rank among those
 -- that pass a test.
 use Rattle.std.proofs.Common.{◌≡◌, ℕ, zero, suc, ◌+◌, ◌<◌, ◌≤◌, ◌∙◌, Bool, true, false, List, [], ◌∷◌, length, refl}
 use Rattle.std.proofs.Common.{sym, ap, cond, arith, filter, get_or, set, map}
@@ -84,7 +84,7 @@ rank-most p (suc i) (x ∷ xs) =
       | false ↦ omega (arith, rest)
     ]
 
--- The element that stands at that rank among those that pass is this one.
+-- The element that is at that rank among those that pass is this one.
 pub ranked : {X : Type 0} (p : X → Bool) (g : X → ℕ) (i : ℕ) (xs : List X) (d : X) (none : ℕ) → i < length xs
     → p (get_or xs i d) ≡ true → get_or (map g (filter p xs)) (rank p i xs) none ≡ g (get_or xs i d)
 ranked p g zero [] d none within passes = absurd (omega (arith, within))

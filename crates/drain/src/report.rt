@@ -17,7 +17,7 @@ pub struct CounterValue {
     pub value: u64,
 }
 
-/// Word 0 with the value 0, which stands in the free places of a fixed table.
+/// Word 0 with the value 0, which is in the free places of a fixed table.
 impl Default for CounterValue {
     fn default() -> CounterValue {
         CounterValue {

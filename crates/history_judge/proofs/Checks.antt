@@ -336,7 +336,7 @@ entry_from history order each k e at_place =
           ∙ trace_of-at history order k (get_or order k 0) (get_or history (get_or order k 0) no_access) stands here);
     }
 
--- an order in which an access stands below its core's bound doesn't keep the core's
+-- an order in which an access is below its core's bound doesn't keep the core's
 pub not_ordered : (history : List Access) (order bounds : List ℕ) (k i : ℕ) (a : Access) → slice_get order k ≡ Some i
     → slice_get history i ≡ Some a → i < get_or bounds a.core.0 0 → IsBounded history order k bounds
     → KeepsCores history order → ⊥

@@ -5,7 +5,7 @@ use Rattle.address_map.specs.declared.request.Op.TheVariants as ops
 use Rattle.slice_log.specs.declared.entry.Entry.{Entry}
 use Rattle.history_judge.specs.declared.access.Access.{Access}
 
--- The entry that performs an access. Its seq is the access's place in the history, so a core's entries stand in its
+-- The entry that performs an access. Its seq is the access's place in the history, so a core's entries are in its
 -- order where their seqs ascend.
 abbrev pub entry_of : ℕ → Access → Entry
 entry_of number a = record {

@@ -14,7 +14,7 @@ pub record IsWrite (word : ℕ) (history : List Access) (i : ℕ) : Type 0 where
   pub value : ℕ
   pub left : left_at word history i ≡ Some value
 
--- the one access stands before the other
+-- the one access is before the other
 pub record IsBefore (order : List ℕ) (a b : ℕ) : Type 0 where
   pub from : ℕ
   pub to : ℕ

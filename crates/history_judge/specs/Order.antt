@@ -24,7 +24,7 @@ entry_at history i = entry_of i (slice_index_or history i no_access)
 abbrev pub trace_of : List Access → List ℕ → List Entry
 trace_of history order = map (entry_at history) order
 
--- the access stands in the order at one place alone
+-- the access is in the order at one place alone
 pub record StandsOnce (order : List ℕ) (i : ℕ) : Type 0 where
   pub place : ℕ
   pub stands : slice_get order place ≡ Some i
@@ -41,7 +41,7 @@ KeepsCores history order =
     (j k a b : ℕ) (d e : Access) → j < k → slice_get order j ≡ Some a → slice_get order k ≡ Some b
     → slice_get history a ≡ Some d → slice_get history b ≡ Some e → d.core.0 ≡ e.core.0 → a < b
 
--- no access stands behind one that began after it had ended
+-- no access follows one that began after it had ended
 abbrev pub KeepsIntervals : List Access → List ℕ → Type 0
 KeepsIntervals history order =
     (j k a b : ℕ) (d e : Access) → j < k → slice_get order j ≡ Some a → slice_get order k ≡ Some b

@@ -110,7 +110,7 @@ fn value_of(values: &HashMap<u64, u64>, initial: &[(WordAddr, u64)], word: WordA
     }
 }
 
-// Whether each core's accesses stand in its order.
+// Whether each core's accesses are in its order.
 fn keeps_cores(alloc: Global, history: &[Access], order: &[usize]) -> Result<bool, AllocError>
     ensures { IfOk result (λ yes. HasEachOnce (length history.now) order.now
         → (IsTrue yes ↔ KeepsCores history.now order.now)) }
@@ -130,7 +130,7 @@ fn keeps_cores(alloc: Global, history: &[Access], order: &[usize]) -> Result<boo
     Ok(true)
 }
 
-// Whether no access stands behind one that began after it had ended.
+// Whether no access follows one that began after it had ended.
 fn keeps_intervals(history: &[Access], order: &[usize]) -> bool
     ensures { HasEachOnce (length history.now) order.now
         → (IsTrue result ↔ KeepsIntervals history.now order.now) }

@@ -21,7 +21,7 @@ pub enum Judgement {
 }
 
 /// Judges a history of a word, or of several that are asked to have one order, as those of a line are. Words begin with
-/// these values, and others with 0. Each core's accesses stand in its order, and those of several cores are mixed in any
+/// these values, and others with 0. Each core's accesses are in its order, and those of several cores are mixed in any
 /// way. At most `limit` steps are taken to try orders, where values repeat or several words are judged.
 pub fn judge(
     alloc: Global,

@@ -90,7 +90,7 @@ of_cas ws (ops.Cas expect new) word reply told = record { expect = expect; new =
 
 -- ---- lines
 
--- what words behind `init` write
+-- what words after `init` write
 pub record IsInitOf (ws : List (List ℕ)) (line : HistoryLine) : Type 0 where
   pub word : WordAddr
   pub value : ℕ
@@ -136,7 +136,7 @@ pub core_short : {X : Type 0} (text : X → List ℕ) (words : List X) (line : H
 core_short text [] line short is = core_alone line is
 core_short text (word ∷ words) line short is = absurd (omega arith)
 
--- the first of some words, and those behind it
+-- the first of some words, and those after it
 pub behind_one : {X : Type 0} (text : X → List ℕ) (words : List X) (d : X) → 1 ≤ length words
     → map text words ≡ text (get_or words 0 d) ∷ map text (take (length words - 1) (drop 1 words))
 behind_one text [] d some = absurd (omega arith)

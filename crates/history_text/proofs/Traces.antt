@@ -16,7 +16,7 @@ use Rattle.history_text.specs.declared.histories.Histories.{Histories}
 use Rattle.history_text.specs.declared.history_line.HistoryLine.{HistoryLine}
 use Rattle.history_text.proofs.HistoryLines.{two_names}
 
--- ---- the lines behind the first
+-- ---- the lines after the first
 
 -- of these statements some were read as these lines, and the others are lines too
 pub record IsReading (version : Version) (all left : List (ℕ × List (List ℕ))) (read : List TraceLine) : Type 0 where
@@ -39,7 +39,7 @@ lines_push version [] (l' ∷ ls) s l h k = absurd h
 lines_push version (s' ∷ ss) [] s l h k = absurd h
 lines_push version (s' ∷ ss) (l' ∷ ls) s l h k = (h.0, lines_push version ss ls s l h.1 k)
 
--- the lines behind the next one
+-- the lines after the next one
 record IsBehind (version : Version) (s : ℕ × List (List ℕ)) (left : List (ℕ × List (List ℕ))) : Type 0 where
   pub line : TraceLine
   pub next : IsLineOf version s.1 line
@@ -167,7 +167,7 @@ pub never_without_version : (text : List ℕ) (number : ℕ) (first : List (List
 never_without_version text number first rest some is refused =
     let goes = goes_on text number first rest some is in refused goes.version goes.begins
 
--- what lines behind the first tell of is what the text does
+-- what lines after the first tell of is what the text does
 pub trace_told : (text : List ℕ) (number : ℕ) (first : List (List ℕ)) (rest : List (ℕ × List (List ℕ)))
     (version : Version) (histories : Histories) → IsSomeTrace text
     → statements_from 0 (lines text) ≡ (number, first) ∷ rest → Writes first (parts_of_first version)

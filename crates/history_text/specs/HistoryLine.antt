@@ -43,7 +43,7 @@ pub record IsInterval (text : List ℕ) (begin end : ℕ) : Type 0 where
   pub second_dot : slice_index text (at + 1) ≡ 46
   pub behind : IsNumberOf (drop (at + 2) text) end
 
--- the words are those that tell of an access, and then those of its times, behind an @
+-- the words are those that tell of an access, and then those of its times, after an @
 abbrev pub IsParted : List (List ℕ) → List (List ℕ) → Option (List ℕ) → Type 0
 IsParted words told None = (words ≡ told) × ((front : List (List ℕ)) (times : List ℕ) → words ≢ front ++ (64 ∷ times) ∷ [])
 IsParted words told (Some times) = words ≡ told ++ (64 ∷ times) ∷ []

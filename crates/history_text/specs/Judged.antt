@@ -43,7 +43,7 @@ abbrev pub IsSomeTrace : List ℕ → Type 0
 IsSomeTrace text =
     (version : Version) × ((init : List (WordAddr × ℕ)) × ((entries : List Entry) × IsTrace version init entries text))
 
--- these are the lines that the text writes, behind the first, which names how
+-- these are the lines that the text writes, after the first, which names how
 pub record AreLinesOf (text : List ℕ) (behind : List TraceLine) : Type 0 where
   pub version : Version
   pub number : ℕ
@@ -81,7 +81,7 @@ unfoldable pub IsFresh : List HistoryLine → HistoryLine → Type 0
 IsFresh before (history_lines.Init word value) = given_in word.0 before ≡ None
 IsFresh before (history_lines.Access access) = Unit {0}
 
--- no word is given a value twice, behind these lines
+-- no word is given a value twice, after these lines
 unfoldable pub AreFresh : List HistoryLine → List HistoryLine → Type 0
 AreFresh before [] = Unit {0}
 AreFresh before (line ∷ told) = IsFresh before line × AreFresh (before ++ line ∷ []) told
@@ -91,7 +91,7 @@ unfoldable pub BeginsAsHistory : List (ℕ × List (List ℕ)) → Type 0
 BeginsAsHistory [] = ⊥
 BeginsAsHistory (first ∷ rest) = Writes first.1 parts_of_history
 
--- the text is a history of these lines, behind its first
+-- the text is a history of these lines, after its first
 pub record IsHistory (text : List ℕ) (told : List HistoryLine) : Type 0 where
   pub first : ℕ × List (List ℕ)
   pub rest : List (ℕ × List (List ℕ))
@@ -142,7 +142,7 @@ unfoldable pub IsGivenAgain : List HistoryLine → HistoryLine → Type 0
 IsGivenAgain before (history_lines.Init word value) = given_in word.0 before ≢ None
 IsGivenAgain before (history_lines.Access access) = ⊥
 
--- the words write no line that may stand behind these
+-- the words write no line that may follow these
 abbrev pub IsNoNext : List HistoryLine → List (List ℕ) → Type 0
 IsNoNext before words =
     ((line : HistoryLine) → IsLineOf words line → ⊥)

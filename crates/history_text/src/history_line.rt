@@ -1,4 +1,4 @@
-//! The lines of a history's text behind the first.
+//! The lines of a history's text after the first.
 ghost use Rattle.std.specs.Prelude.{◌∷◌, codes, map, IfErr, IfOk};
 ghost use Rattle.history_text.specs.HistoryLine.{IsAccessBy, ReadsAsLine, ReadsAsTold};
 ghost use Rattle.history_text.specs.declared.history_line.HistoryLine.{HistoryLine};

@@ -53,7 +53,7 @@ fn parse_around(text: &[u8], at: usize) -> Result<Interval, LineFault>
     Ok(Interval { begin, end })
 }
 
-// What stands behind the dot at this place and another.
+// What follows the dot at this place and another.
 fn behind_dots(text: &[u8], at: usize) -> Option<&[u8]>
     requires { at < length text.now }
     ensures some { IfSome result
@@ -73,7 +73,7 @@ fn dot_at(text: &[u8]) -> Option<usize>
     text.iter().position(|byte| *byte == b'.')
 }
 
-/// The words before the last, and what that one says behind its `@`, where it begins so.
+/// The words before the last, and what that one says after its `@`, where it begins so.
 pub(super) fn parted<'a>(words: &'a [&'a [u8]]) -> Option<(&'a [&'a [u8]], &'a [u8])>
     ensures some { IfSome result
         (λ p. map (λ w. w.now) words.now ≡ map (λ w. w.now) p.0.now ++ (64 ∷ p.1.now) ∷ []) }

@@ -147,7 +147,7 @@ fn read_checked(alloc: Global, trace: &[u8], extent: Extent) -> Result<Histories
     }
 }
 
-// .. whose lines these are, behind the first.
+// .. whose lines these are, after the first.
 fn read_entries(
     alloc: Global,
     version: Version,

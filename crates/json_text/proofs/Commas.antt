@@ -10,7 +10,7 @@ use Rattle.json_text.specs.List.{before_text}
 
 module _ {W X : Type 0} (took : W → List ℕ → W → Type 0) (all : Bool → List X → List ℕ) (first : Bool) (xs : List X)
     (i : ℕ) (d : X) where
-  -- the text of the next item, and then those of the items behind it
+  -- the text of the next item, and then those of the items after it
   pub next_text : (text : List ℕ) → i < length xs
       → all first (get_or xs i d ∷ drop (i + 1) xs) ≡ (before_text first ++ text) ++ all false (drop (i + 1) xs)
       → (old mid new last : W) → WritesInCalls took old (before_text first) mid → WritesInCalls took mid text new
@@ -26,7 +26,7 @@ module _ {W X : Type 0} (took : W → List ℕ → W → Type 0) (all : Bool →
   skip_text below step old last rest =
       subst (λ these. WritesInCalls took old these last) (sym (at_drop_more (all first) xs i d below ∙ step)) rest
 
--- behind the last item there is none
+-- after the last item there is none
 pub last_text : {W X : Type 0} (took : W → List ℕ → W → Type 0) (all : Bool → List X → List ℕ) (first : Bool)
     (xs : List X) (i : ℕ)
     → length xs ≤ i → all first [] ≡ [] → (now : W) → WritesInCalls took now (all first (drop i xs)) now

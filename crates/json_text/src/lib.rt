@@ -1,6 +1,6 @@
 //! What texts of JSON (RFC 8259) have in common: lists, whose items have commas between them, and numbers.
 //!
-//! [`write_comma`] writes what stands before an item. The whole list is `with_commas` of specs/List.antt; the lemmas of
+//! [`write_comma`] writes what is before an item. The whole list is `with_commas` of specs/List.antt; the lemmas of
 //! proofs/Commas.antt step through one that is written item by item. A [`Number`] is `number_of` of specs/Number.antt.
 #![tactic(auto)]
 
@@ -14,7 +14,7 @@ use std::fmt::Write;
 
 mod number;
 
-/// Writes what stands before an item of a list: a comma, but before the first.
+/// Writes what is before an item of a list: a comma, but before the first.
 pub fn write_comma<W: Write>(is_first: bool, out: &mut W) -> fmt::Result
     ensures { OnOk result (WritesInCalls W.write_str_gives out.old (before_text is_first) out.new) }
 {

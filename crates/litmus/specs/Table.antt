@@ -8,7 +8,7 @@ use Rattle.protocol_tables.specs.Directory.{table_of as directory_table}
 use Rattle.table_json.specs.Cache.{cells_of as cache_cells}
 use Rattle.table_json.specs.Directory.{cells_of as directory_cells}
 
--- the text of a table, with what the exclusive state adds to it or without that, and behind it what its words mean
+-- the text of a table, with what the exclusive state adds to it or without that, and after it what its words mean
 abbrev pub text_of_table : Table → Bool → List ℕ
 text_of_table tables.Cache exclusive = cache_table exclusive ++ CACHE.now
 text_of_table tables.Directory exclusive = directory_table exclusive ++ DIRECTORY.now

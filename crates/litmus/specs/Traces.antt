@@ -14,12 +14,12 @@ use Rattle.litmus_threads.specs.Trace.{heading_of}
 use Rattle.mshr_file.specs.Miss.{Bound}
 use Rattle.slice_core_plan.specs.Calls.{PartsView}
 
--- a slice's log as a trace, as the command `log` shows it, behind a line that names the slice where there are several
+-- a slice's log as a trace, as the command `log` shows it, after a line that names the slice where there are several
 abbrev pub text_of_slice : Config → List PartsView → ℕ → List ℕ
 text_of_slice c slices slice =
     heading_of c slice ++ text_of_trace c.cores (init_at slices slice) (log_at slices slice)
 
--- those of the slices below this number, one behind another
+-- those of the slices below this number, one after another
 abbrev pub text_of_slices : Config → List PartsView → ℕ → List ℕ
 text_of_slices c slices limit = flat_map (text_of_slice c slices) (range_with_len 0 limit)
 

@@ -29,7 +29,7 @@ HasViewFault views.Page script fault = HasPageFault script fault
 HasViewFault views.Traces script fault = HasTracesFault script fault
 HasViewFault views.Coverage script fault = HasNoCounts script fault
 
--- what is printed behind these lines is a script, and this view of it is written
+-- what is printed after these lines is a script, and this view of it is written
 pub record IsViewOfPrinted (view : View) (head : List ℕ) (Prints : Option (List ℕ) → Option (List ℕ) → Type 0)
     (before after : Option (List ℕ)) : Type 0 where
   pub script : List ℕ

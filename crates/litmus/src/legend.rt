@@ -1,6 +1,6 @@
-//! What the words of the protocol's tables mean. Each stands behind its table where that is printed.
+//! What the words of the protocol's tables mean. Each follows its table where that is printed.
 
-/// Behind the table of a private cache.
+/// After the table of a private cache.
 pub const CACHE: &str = "
 n        the acknowledgements that the Data name
 k        those that have come, from 0
@@ -17,7 +17,7 @@ Fwd-GetS, Fwd-GetM, Inv and Put-Ack come by one channel, first in first out: a P
 of the others would leave it without a row. Data and Data-E come by another, Inv-Ack by one for each sender.
 ";
 
-/// Behind the table of a directory.
+/// After the table of a directory.
 pub const DIRECTORY: &str = "
 r        the core that asks
 o        the owner, and in S_D the core that was

@@ -1,7 +1,7 @@
 //! What the program `lockup` does: it reads its command line, and runs the texts that this names.
 //!
 //! - [`read_line`] reads what the program's own words ask for.
-//! - [`run_script`] runs a script, [`run_explained`] tells what happened behind each answer, [`run_beside`] prints each
+//! - [`run_script`] runs a script, [`run_explained`] tells what happened after each answer, [`run_beside`] prints each
 //!   answer beside its command, and [`run_json`] each command as a value of JSON. [`run_chart`] draws the run as a
 //!   sequence diagram, [`run_svg`] one line of it over time (of those that the machine has, [`line_count`]),
 //!   [`run_page`] writes it as a page for a browser, and [`run_waves`] as waves for a wave viewer.

@@ -30,7 +30,7 @@ pub enum View {
     Coverage,
 }
 
-/// Writes this view of the script that [`write_walk`] prints, behind the lines of `head`. Returns the
+/// Writes this view of the script that [`write_walk`] prints, after the lines of `head`. Returns the
 /// exit status, which is 1 where the round is stuck or was given up.
 pub fn view_walk<W: Write>(
     alloc: Global,
@@ -57,7 +57,7 @@ pub fn view_walk<W: Write>(
     }
 }
 
-/// Writes this view of the script that [`write_schedule`] prints, behind the lines of `head`. Returns
+/// Writes this view of the script that [`write_schedule`] prints, after the lines of `head`. Returns
 /// the exit status, which is 1 where nothing can move before the end.
 pub fn view_schedule<W: Write>(
     alloc: Global,

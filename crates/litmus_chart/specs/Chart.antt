@@ -22,7 +22,7 @@ head_of fates.Delivered = codes "->>"
 head_of fates.Blocked = codes "-x"
 head_of (fates.Broken cell) = codes "-x"
 
--- what is said behind the message that isn't delivered
+-- what is said after the message that isn't delivered
 abbrev pub remark_of : Fate → List ℕ
 remark_of fates.Delivered = codes ""
 remark_of fates.Blocked = codes " (blocked)"

@@ -35,7 +35,7 @@ pub struct Flown {
     pub from: Participant,
     pub sent: usize,
     pub taken: Option<usize>,
-    /// None for one that stands behind another to the end.
+    /// None for one that follows another to the end.
     pub message: Option<Message>,
 }
 

@@ -31,7 +31,7 @@ script_app =
 abbrev pub coverage_app : App
 coverage_app = with_rules (new_app (codes "coverage")) (several_rule (codes "FILE") ∷ [])
 
--- the subcommand that answers a script's lines one by one, behind a text that may be left out
+-- the subcommand that answers a script's lines one by one, after a text that may be left out
 abbrev pub try_app : App
 try_app = with_rules (new_app (codes "try")) (new_rule (codes "FILE") ∷ [])
 

@@ -26,7 +26,7 @@ pub enum CommandLine<'a> {
     },
     /// Add what runs of scripts counted, in the files that `read_files` reads.
     Coverage,
-    /// Answer a script's lines one by one, behind the script in this file if one is named.
+    /// Answer a script's lines one by one, after the script in this file if one is named.
     Try {
         file: Option<&'a str>,
     },
@@ -77,14 +77,14 @@ pub enum CommandLine<'a> {
         jobs: Option<u64>,
         explain: bool,
     },
-    /// Put together what the files have that `read_files` reads: rows, or behind a litmus test the parts of its walk.
+    /// Put together what the files have that `read_files` reads: rows, or after a litmus test the parts of its walk.
     /// With `json`, print the outcomes of parts as a value of JSON, and with `mean` the means of rows.
     Merge {
         json: bool,
         mean: bool,
     },
     /// Run the programs in this file in the order that the seed draws, with so many accesses of a core under way and up
-    /// to so many deliveries of each slice behind an access, if a number is given, and not as many as the text says.
+    /// to so many deliveries of each slice after an access, if a number is given, and not as many as the text says.
     /// Print this form of the run.
     Run {
         file: &'a str,
@@ -185,7 +185,7 @@ pub fn read_line<'a>(alloc: Global, words: &'a [String]) -> Result<CommandLine<'
     }
 }
 
-/// Reads the settings that vary, each as it is written behind `--set`, of words that ask for rows.
+/// Reads the settings that vary, each as it is written after `--set`, of words that ask for rows.
 pub fn read_settings<'a>(alloc: Global, words: &'a [String]) -> Result<Vec<&'a str>, Error>
     ensures { IfOk result
         (λ texts. AreTexts (codes "set") (map string_bytes words.entry.now) (map (λ text. text.now) texts.items)) }

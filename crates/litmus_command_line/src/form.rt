@@ -1,7 +1,7 @@
 /// How the run of a script is printed.
 #[derive(Clone, Copy, Debug, PartialEq, Eq)]
 pub enum ScriptForm {
-    /// Its answers: with `echo` each behind its command's line, and with `explain` each before what happened.
+    /// Its answers: with `echo` each after its command's line, and with `explain` each before what happened.
     Answers { echo: bool, explain: bool },
     /// Each answer beside its command's line.
     Beside { explain: bool },

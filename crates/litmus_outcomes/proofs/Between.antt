@@ -66,7 +66,7 @@ ascending_whole (row ∷ front) back parts =
 -- ---- a row between others
 
 module _ (front back : List RowView) (row : RowView) where
-  -- the rows around a place, and what stands there
+  -- the rows around a place, and what is there
   pub record Around : Type 0 where
     pub around : Parts front back
     pub below : All (λ other. IsBelow other row) front

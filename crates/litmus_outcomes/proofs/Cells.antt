@@ -15,7 +15,7 @@ module _ {W X : Type 0} (took : W → List ℕ → W → Type 0) (label : X → 
   abbrev pub labelled : List X → List ℕ → List ℕ
   labelled xs values = cells_of (zip (map label xs) values)
 
-  -- a cell is written, and then those behind it
+  -- a cell is written, and then those after it
   pub next_cell : (xs rest : List X) (values later : List ℕ) (x : X) (value : ℕ)
       → xs ≡ x ∷ rest → values ≡ value ∷ later
       → (old mid new : W) → WritesInCalls took old (codes " " ++ label x ++ codes "=" ++ decimal value) mid
@@ -31,7 +31,7 @@ module _ {W X : Type 0} (took : W → List ℕ → W → Type 0) (label : X → 
   last_cell (x ∷ xs) (value ∷ values) (inl none) now = absurd (omega (arith, none))
   last_cell (x ∷ xs) (value ∷ values) (inr none) now = absurd (omega (arith, none))
 
--- the cells of two kinds of labels: the second have the values behind those of the first
+-- the cells of two kinds of labels: the second have the values after those of the first
 pub two_kinds : (first second : List (List ℕ)) (values : List ℕ)
     → cells_of (zip (first ++ second) values)
     ≡ cells_of (zip first values) ++ cells_of (zip second (drop (length first) values))
@@ -56,7 +56,7 @@ names_and_counters test names counters values whole behind same_names same_count
     rw (same_names, same_counters, same_values, rest, ← long)
     (sym (two_kinds (map label test.names.items) (map counter_label test.config.counters) whole))
 
--- a line is written, and then those behind it
+-- a line is written, and then those after it
 pub next_line : {W X : Type 0} (took : W → List ℕ → W → Type 0) (line : X → List ℕ) (xs : List X) (i : ℕ) (x : X)
     → i < length xs → x ≡ get_or xs i x → (old mid new : W) → WritesInCalls took old (line x) mid
     → WritesInCalls took mid (flat_map line (drop (i + 1) xs)) new

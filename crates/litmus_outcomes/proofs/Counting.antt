@@ -25,7 +25,7 @@ unlike xs ys less = texts_ties xs ys ∙ ap is_eq less
 pub unlike_back : (xs ys : List ℕ) → slice_cmp nat_cmp xs ys ≡ Less → pointwise nat_eq ys xs ≡ false
 unlike_back xs ys less = texts_ties ys xs ∙ ap is_eq (nat_list_cmp_total.antisymm ys xs ∙ ap ordering_reverse less)
 
--- all rows behind the first are above it, and ascend
+-- all rows after the first are above it, and ascend
 pub above_first : (row : RowView) (rows : List RowView) → AllPairs IsBelow (row ∷ rows) → All (IsBelow row) rows
 above_first row rows ascending k d below = ascending 0 (suc k) d (omega arith) (omega (arith, below))
 

@@ -27,7 +27,7 @@ requests_in c slice (actions.Access word op ∷ steps) =
 requests_in c slice (step ∷ steps) = requests_in c slice steps
 
 -- The request that a step of a thread makes, if it is an access: the thread's core makes it, of the slice that has the
--- word, behind those that the steps before it make of that slice.
+-- word, after those that the steps before it make of that slice.
 abbrev pub request_of : Config → Thread → ℕ → Action → Option NamedRequest
 request_of c thread step (actions.Access word op) =
     let slice = slice_of c (line_of word) in

@@ -19,7 +19,7 @@ counter_label word = codes "[" ++ decimal word.0 ++ codes "]"
 abbrev pub labels_of : LitmusTest → List (List ℕ)
 labels_of test = map (λ named. named.name.now) test.names.items ++ map counter_label test.config.counters
 
--- each value behind what it is called
+-- each value after what it is called
 abbrev pub cells_of : List (List ℕ × ℕ) → List ℕ
 cells_of cells = flat_map (λ cell. codes " " ++ cell.0 ++ codes "=" ++ decimal cell.1) cells
 

@@ -30,7 +30,7 @@ impl Ended {
         }
     }
 
-    /// The same of rounds that stand behind so many others.
+    /// The same of rounds that follow so many others.
     pub const fn behind(self, rounds: u64) -> Ended
         requires { rounds + round_of self < 2 ^ 64 }
         ensures { result ≡ ended_behind rounds self }

@@ -6,7 +6,7 @@
 //! - [`Outcomes`] counts the outcomes of rounds. Its value is a table; contracts say of which rounds it is the table
 //!   (`IsTableOf` of specs/Table.antt): a row for each outcome, ascending, with how often it came and where first.
 //!   Rounds have one table alone ([`one_table`]), and its rows' counts add up to the rounds. To add an outcome is a
-//!   binary search, and takes memory only where it is a new one. [`Outcomes::append`] adds the table of the rounds behind
+//!   binary search, and takes memory only where it is a new one. [`Outcomes::append`] adds the table of the rounds after
 //!   those of this one: the two are then the table of all.
 //! - [`write_table`] prints the table byte for byte (`text_of` of specs/Text.antt). [`write_outcomes`] does, or writes it as
 //!   one value of JSON, [`write_stuck`] which round was stuck, and [`write_gave_up`] which was given up and when

@@ -98,7 +98,7 @@ impl Outcomes {
     /// may be counted.
     pub fn append(&mut self, from: u64, other: &Outcomes) -> Result<(), AllocError>
         requires { self.old.rounds + other.now.rounds < 2 ^ 64 }
-        // The other's rounds come behind those of this one.
+        // The other's rounds come after those of this one.
         ensures behind { OnOk result ((rounds more : List (List ℕ)) → from ≡ length rounds
             → IsTableOf rounds self.old → IsTableOf more other.now → IsTableOf (rounds ++ more) self.new) }
         // Also where rounds between the two are missing.

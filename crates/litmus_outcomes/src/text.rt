@@ -59,7 +59,7 @@ fn write_row<W: fmt::Write>(
     writeln!(out)
 }
 
-// The values behind those of so many names.
+// The values after those of so many names.
 fn values_behind(names: usize, values: &[u64]) -> &[u64]
     ensures { result.now ≡ drop names values.now }
 {

@@ -6,7 +6,7 @@ use Rattle.std.proofs.lemmas.List.{append-nil, at_drop_all, at_drop_more, take-a
 use Rattle.std.specs.Cmp.Lexicographic.{bytes_decides, pointwise}
 
 module _ {X : Type 0} (f : X → List ℕ) (xs : List X) (i : ℕ) where
-  -- the piece of the next item, and then those of the items behind it
+  -- the piece of the next item, and then those of the items after it
   pub next_pieces : (x : X) (old new piece : List ℕ) → i < length xs → x ≡ get_or xs i x → piece ≡ f x
       → new ≡ old ++ piece → new ++ flat_map f (drop (i + 1) xs) ≡ old ++ flat_map f (drop i xs)
   next_pieces x old new piece below here is grows =
@@ -23,7 +23,7 @@ module _ {X : Type 0} (f : X → List ℕ) (xs : List X) (i : ℕ) where
       ∙ append_assoc old (f (get_or xs i d)) (flat_map f (drop (i + 1) xs))
       ∙ ap (λ (t : List ℕ). old ++ t) (sym (at_drop_more (flat_map f) xs i d below))
 
-  -- behind the last item there is none
+  -- after the last item there is none
   pub last_pieces : (now : List ℕ) → length xs ≤ i → now ≡ now ++ flat_map f (drop i xs)
   last_pieces now end = sym (ap (λ (t : List ℕ). now ++ t) (at_drop_all (flat_map f) xs i end) ∙ append-nil now)
 
@@ -34,7 +34,7 @@ whole_text text front rest written same behind is =
     sym (take-append-drop (length front) text)
     ∙ ap₂ (λ (a b : List ℕ). a ++ b) ((bytes_decides (take (length front) text) front).0 same ∙ is) (sym behind)
 
--- pieces that are added one behind another are added together
+-- pieces that are added one after another are added together
 pub four_pieces : (old a b c d one two three four : List ℕ) → one ≡ old ++ a → two ≡ one ++ b → three ≡ two ++ c
     → four ≡ three ++ d → four ≡ old ++ (a ++ (b ++ (c ++ d)))
 four_pieces old a b c d one two three four first second third fourth =

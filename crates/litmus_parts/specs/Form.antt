@@ -40,7 +40,7 @@ end_of (ended_kinds.GaveUp round) = codes "end gave up round " ++ (decimal round
 abbrev pub text_of_part : Part → List ℕ
 text_of_part part = head_of part ++ (flat_map (line_of part.seed) part.outcomes.rows ++ end_of part.ended)
 
--- parts one behind another
+-- parts one after another
 abbrev pub text_of_parts : List Part → List ℕ
 text_of_parts parts = flat_map text_of_part parts
 

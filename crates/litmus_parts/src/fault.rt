@@ -66,7 +66,7 @@ impl PartFault {
         }
     }
 
-    /// The other file that it speaks of: its name stands behind the reason.
+    /// The other file that it speaks of: its name follows the reason.
     pub const fn other(&self) -> Option<usize> {
         match self {
             PartFault::OtherLimit { other, .. } | PartFault::Twice { other, .. } => Some(*other),

@@ -19,7 +19,7 @@ pub struct Part {
     pub most: u64,
     /// The seed of the first round.
     pub seed: u64,
-    /// How many rounds there are, those behind one that has no outcome included.
+    /// How many rounds there are, those after one that has no outcome included.
     pub count: u64,
     /// .. of the rounds before it.
     pub outcomes: Outcomes,

@@ -81,7 +81,7 @@ fn found_in(
     }
 }
 
-// What stands behind the text of the parts.
+// What follows the text of the parts.
 fn text_behind<'a>(
     alloc: Global,
     text: &'a [u8],

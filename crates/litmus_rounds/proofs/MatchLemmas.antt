@@ -33,7 +33,7 @@ adds_push P xs old new x value adds one = record {
   each = match_push P xs adds.values x value adds.each one;
 }
 
--- the next of a list matches, behind those before it
+-- the next of a list matches, after those before it
 pub match_next : {X : Type 0} (P : X → ℕ → Type 0) (xs : List X) (i : ℕ) (d : X) (values : List ℕ) (value : ℕ)
     → Match P (take i xs) values → P (get_or xs i d) value → i < length xs
     → Match P (take (i + 1) xs) (values ++ value ∷ [])

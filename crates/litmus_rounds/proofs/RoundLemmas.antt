@@ -1,4 +1,4 @@
--- One more round, and more rounds behind those that are done.
+-- One more round, and more rounds after those that are done.
 use Rattle.std.proofs.Common.{zero, suc, ◌≡◌, ◌⊎◌, ◌+◌, ◌<◌, ◌≤◌, ℕ, List, [], ◌∷◌, ◌++◌, ap, refl, length, length-append, get_or, sym, subst}
 use Rattle.std.proofs.Common.{arith, inl, inr, ◌∙◌}
 use Rattle.std.proofs.Math.ListN.{get_or-append}
@@ -51,7 +51,7 @@ rounds_push test bound seed most count old new outcome are one grows = record {
       ];
 }
 
--- a round is one of the first, or of those behind them
+-- a round is one of the first, or of those after them
 in_parts : (rounds more : List (List ℕ)) (k : ℕ) (values : List ℕ) → slice_get (rounds ++ more) k ≡ Some values
     → (slice_get rounds k ≡ Some values) ⊎ ((j : ℕ) × (k ≡ length rounds + j) × (slice_get more j ≡ Some values))
 in_parts [] more k values is = inr (k, omega arith, is)
@@ -65,14 +65,14 @@ in_parts (round ∷ rounds) more (suc k) values is = elim (in_parts rounds more 
 pub seed_behind : (seed count round : ℕ) → seed_of (seed_of seed count) round ≡ seed_of seed (count + round)
 seed_behind seed count round = omega arith
 
--- what a table of the rounds behind those of another makes of it
+-- what a table of the rounds after those of another makes of it
 abbrev pub Behind : ℕ → (old other new : TableView) → Type 0
 Behind count old other new =
     (rounds more : List (List ℕ)) → count ≡ length rounds → IsTableOf rounds old → IsTableOf more other
     → IsTableOf (rounds ++ more) new
 
 module _ (test : LitmusTest) (bound : Bound) (seed most count : ℕ) (old other new : TableView) where
-  -- rounds, and those behind them
+  -- rounds, and those after them
   pub rounds_behind : (more : ℕ) → AreRounds test bound seed most count old
       → AreRounds test bound (seed_of seed count) most more other → Behind count old other new
       → AreRounds test bound seed most (count + more) new
@@ -115,7 +115,7 @@ ended_fits test bound seed most count table (ended_kinds.Stuck round) (below, ar
 ended_fits test bound seed most count table (ended_kinds.GaveUp round) (below, are, given_up) =
     (omega (arith, are.table_of.count, are.counted, below), omega (arith, below))
 
--- rounds behind one that has no outcome change nothing
+-- rounds after one that has no outcome change nothing
 pub ended_early : (test : LitmusTest) (bound : Bound) (seed most count more : ℕ) (table : TableView) (ended : Ended)
     → HaveEnded test bound seed most count table ended → ended ≢ ended_kinds.Done → count ≤ more
     → HaveEnded test bound seed most more table ended

@@ -149,7 +149,7 @@ fn tell<P: Progress>(progress: &mut P, done: u64, batch: Batch, rounds: u64)
     }
 }
 
-// Adds the outcomes of a batch behind those of the rounds that are done, up to a round that has none.
+// Adds the outcomes of a batch after those of the rounds that are done, up to a round that has none.
 fn walk_batch<R: Threads + Sync>(
     alloc: Global,
     rt: &R,
@@ -234,7 +234,7 @@ fn walk_place(
     walk_stretch(alloc, test, lines, named_requests, from, batch.share, most)
 }
 
-// Adds the outcomes of a stretch behind those of the rounds that are done.
+// Adds the outcomes of a stretch after those of the rounds that are done.
 fn add_stretch(
     done: u64,
     stretch: &Result<Stretch, AllocError>,

@@ -187,7 +187,7 @@ impl Merged {
         Ok(())
     }
 
-    // Notes the rounds behind the last that parts had which are cut off.
+    // Notes the rounds after the last that parts had which are cut off.
     fn miss_behind(&mut self, cut: &[Gap]) -> Result<(), AllocError>
         ensures { OnOk result ((parts : List Part) → IsMergeOf parts self.old → IsMergeOf parts self.new) }
     {

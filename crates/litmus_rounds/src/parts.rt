@@ -55,7 +55,7 @@ pub fn print_parts<R: Threads + Sync, W: Write, P: Progress>(
     Ok(())
 }
 
-/// The seed of the first of the parts that a walk of these rounds doesn't begin with: none where it can go on behind
+/// The seed of the first of the parts that a walk of these rounds doesn't begin with: none where it can go on after
 /// them.
 pub fn first_other(known: &[Part], sum: u64, rounds: u64, seed: u64, most: u64) -> Option<u64>
     ensures none { known.now ≡ [] → result ≡ None }

@@ -29,7 +29,7 @@ pub fn processors<R: Threads>(rt: &R) -> usize
 
 /// Walks through a litmus test so many times, in so many jobs side by side, and prints how often each outcome came, with
 /// the seed of the first round that had it: round 0 has the given seed, and each the next. Returns the exit status, which
-/// is 1 where a forbidden outcome came, or a round is stuck or is given up behind `most` moves; then nothing else is
+/// is 1 where a forbidden outcome came, or a round is stuck or is given up after `most` moves; then nothing else is
 /// printed but which round is. What is printed is the same for any number of jobs.
 pub fn run_walk<R: Threads + Sync, W: Write, P: Progress>(
     alloc: Global,

@@ -6,7 +6,7 @@ use Rattle.litmus_text.specs.Command.{parts_of_op}
 use Rattle.litmus_text.specs.Form.{Part, key, num}
 use Rattle.script_text.specs.Line.{line_of_parts, text_of_parts}
 
--- a number behind a blank
+-- a number after a blank
 abbrev pub spaced : ℕ → List ℕ
 spaced n = codes " " ++ decimal n
 
@@ -30,7 +30,7 @@ module _ (name s : List ℕ) where
       ≡ ((((((name ++ (s ++ a)) ++ (s ++ b)) ++ (s ++ c)) ++ (s ++ access)) ++ (s ++ d)) ++ (s ++ e)) ++ end
   entry a b c access d e end = simp append_assoc
 
--- an access, and the two numbers behind it
+-- an access, and the two numbers after it
 access_pieces : (word reply since : ℕ) (op : Op) → text_of_parts (parts_of_op op word ++ num reply ∷ num since ∷ [])
     ≡ text_of_parts (parts_of_op op word) ++ (codes " " ++ (decimal reply ++ (codes " " ++ decimal since)))
 unfolding parts_of_op
@@ -40,7 +40,7 @@ access_pieces word reply since (ops.Add delta) = two (codes "add") (codes " ") (
 access_pieces word reply since (ops.Cas expect new) =
     three (codes "cas") (codes " ") (decimal word) (decimal expect) (decimal new) _
 
--- behind the tag comes the access
+-- after the tag comes the access
 tag_first : (tag word reply since : ℕ) (op : Op) →
     text_of_parts (num tag ∷ (parts_of_op op word ++ num reply ∷ num since ∷ []))
     ≡ decimal tag ++ (codes " " ++ text_of_parts (parts_of_op op word ++ num reply ∷ num since ∷ []))

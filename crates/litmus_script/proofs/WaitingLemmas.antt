@@ -24,7 +24,7 @@ use Rattle.slice_answer.specs.declared.answer.Delivery.TheVariants as deliveries
 use Rattle.slice_answer.specs.declared.answer.Delivery.{Delivery}
 use Rattle.slice_core_plan.specs.declared.transition.Transition.{Transition}
 
--- the lines of a slice, and then those of the slices behind it
+-- the lines of a slice, and then those of the slices after it
 pub lines_of_slices : (state : PartsView) (more : List PartsView) → lines_of (in_flight (state ∷ more)) ≡
     lines_of (flights_of state.view (picks_of state.view)) ++ lines_of (in_flight more)
 lines_of_slices state more =
@@ -46,7 +46,7 @@ moves (deliveries.Broken cell) state nothing blocked broken = absurd (broken cel
 moves (deliveries.Moved step) state nothing blocked broken = refl
 
 module _ {W : Type 0} (took : W → List ℕ → W → Type 0) (v : View) where
-  -- the line of the next message, and then those behind it
+  -- the line of the next message, and then those after it
   pub next_line : (left : List Pick) (pick : Pick) → Some pick ≡ slice_get left 0 → (old mid new : W)
       → WritesInCalls took old (text_at v pick) mid → WritesInCalls took mid (lines_of (flights_of v (drop 1 left))) new
       → WritesInCalls took old (lines_of (flights_of v left)) new

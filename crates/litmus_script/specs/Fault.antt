@@ -13,7 +13,7 @@ abbrev pub BeginsAsConfig : List (List ℕ) → Type 0
 BeginsAsConfig [] = ⊥
 BeginsAsConfig (name ∷ words) = IsFieldName name
 
--- What is wrong with words behind the configuration: with those that begin as a line that configures their form, or
+-- What is wrong with words after the configuration: with those that begin as a line that configures their form, or
 -- else their place, and with others what is wrong with them as a command.
 abbrev pub IsFaultBehind : Config → List (List ℕ) → LineFault → Type 0
 IsFaultBehind config words fault =

@@ -24,7 +24,7 @@ pub record PlaysOne {P : Type 0} (plays : P → List ℕ → Command → Option 
   pub read : IsRead config words command
   pub played : plays old line command before after new
 
--- all are played, in order: each begins at the player, and behind the text, that the one before it left
+-- all are played, in order: each begins at the player, and after the text, that the one before it left
 abbrev pub PlaysAll : {P : Type 0} → (P → List ℕ → Command → Option (List ℕ) → Option (List ℕ) → P → Type 0) → Config
     → List (ℕ × List (List ℕ)) → P → P → Option (List ℕ) → Option (List ℕ) → Type 0
 PlaysAll plays config [] old new before after = (new ≡ old) × (after ≡ before)

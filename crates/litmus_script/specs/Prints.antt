@@ -38,7 +38,7 @@ pub record PrintsPump (tells : Telling) (slices calls : ℕ) (old new : List Par
   pub pumps : Pumps tells slices calls pumped old new before middle
   pub said : Adds middle after (text_of_pumped pumped)
 
--- The command's call of its slice, and what is written of the slice's answer behind what was written before. What only
+-- The command's call of its slice, and what is written of the slice's answer after what was written before. What only
 -- shows something leaves the machine as it was, and its text is that of what the machine has.
 abbrev pub Prints : Config → Command → List PartsView → List PartsView → Option (List ℕ) → Option (List ℕ) → Type 0
 Prints config (commands.Issue core request) old new before after =

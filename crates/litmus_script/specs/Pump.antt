@@ -21,7 +21,7 @@ IsDelivered slice answer old new =
     IsAnswered slice (slice_calls.DeliverNext classes.Any) (call_answers.DeliverNext answer) old new
 
 -- A telling of deliveries: what the next delivery of a slice, by its answer, does to the slices of a machine, and what
--- is written of it behind what was written before.
+-- is written of it after what was written before.
 abbrev pub Telling : Type 1
 Telling = List PartsView → ℕ → Delivery Pick → Option (List ℕ) → Option (List ℕ) → List PartsView → Type 0
 
@@ -30,7 +30,7 @@ abbrev pub Silently : Telling
 Silently old slice answer before after new = IsDelivered slice answer old new × (after ≡ before)
 
 -- From this slice on, a delivery was made in one slice after another, by these answers. Each begins at the machine, and
--- behind the text, that the one before it left.
+-- after the text, that the one before it left.
 abbrev pub Delivers : {D : Type 0} → (D → ℕ → Delivery Pick → Option (List ℕ) → Option (List ℕ) → D → Type 0) → ℕ
     → List (Delivery Pick) → D → D → Option (List ℕ) → Option (List ℕ) → Type 0
 Delivers tells slice [] old new before after = (new ≡ old) × (after ≡ before)

@@ -84,7 +84,7 @@ abbrev pub left_of : Option Statement → List (ℕ × List (List ℕ)) → List
 left_of None rest = rest
 left_of (Some first) rest = said_by first ∷ rest
 
--- the statements behind the configuration
+-- the statements after the configuration
 abbrev pub commands_of : Commands → List (ℕ × List (List ℕ))
 commands_of commands = left_of commands.first commands.rest
 
@@ -110,7 +110,7 @@ IsReadAs all (Some script) = IsScript all script
 
 -- ---- a run
 
--- A style of playing: what a command on this line does to the slices of a machine, and what is written of it behind
+-- A style of playing: what a command on this line does to the slices of a machine, and what is written of it after
 -- what was written before.
 abbrev pub Playing : Type 1
 Playing = Config → List PartsView → List ℕ → Command → Option (List ℕ) → Option (List ℕ) → List PartsView → Type 0
@@ -119,7 +119,7 @@ Playing = Config → List PartsView → List ℕ → Command → Option (List �
 abbrev pub Plainly : Playing
 Plainly config old line command before after new = IsPrinted config command old new before after
 
--- .. and stands behind the line where lines are echoed
+-- .. and follows the line where lines are echoed
 abbrev pub Echoed : Bool → Playing → Playing
 Echoed false plays config old line command before after new = plays config old line command before after new
 Echoed true plays config old line command before after new =

@@ -13,7 +13,7 @@ pub trait Deliverer: Sized + Drop {
     ghost config_of: { Self → Config };
 
     /// What the next delivery of the slice with this number does, by its answer: from a deliverer, and what was written
-    /// before, to those behind it.
+    /// before, to those after it.
     ghost delivers: { Self → ℕ → Delivery Pick → Option (List ℕ) → Option (List ℕ) → Self → Type 0 };
 
     /// How many slices the machine has.

@@ -12,7 +12,7 @@ use std::io::Write;
 pub trait Player: Sized + Drop {
     ghost config_of: { Self → Config };
 
-    /// What a command on a line of this text does: from a player, and what was written before, to those behind it.
+    /// What a command on a line of this text does: from a player, and what was written before, to those after it.
     ghost plays: { Self → List ℕ → Command → Option (List ℕ) → Option (List ℕ) → Self → Type 0 };
 
     /// The shape of the machine that is played on. It stays.

@@ -23,7 +23,7 @@ use mshr_file::{ExplicitFile, InvertedFile, MissFile, MissKind};
 use std::alloc::Global;
 use std::io::Write;
 
-/// Runs a script: its configuration, then its commands in order, each of which writes its answer, behind its own line
+/// Runs a script: its configuration, then its commands in order, each of which writes its answer, after its own line
 /// where echo is asked for. Returns the exit status. A fault ends the run; what was written before it stays.
 pub fn run_script<W: Write>(
     alloc: Global,
@@ -121,7 +121,7 @@ pub trait Style {
             machine.slices.items (W.contents out.old) (W.contents out.new)) };
 }
 
-/// Each command's answer alone, or behind the command's own line.
+/// Each command's answer alone, or after the command's own line.
 #[derive(Clone, Copy)]
 pub struct Plain {
     pub echo: bool,
@@ -144,7 +144,7 @@ impl Style for Plain {
     }
 }
 
-/// Plays commands on a machine, each behind its own line.
+/// Plays commands on a machine, each after its own line.
 fn play_echoed<F: MissFile, W: Write>(
     machine: Machine<F>,
     commands: Commands<'_>,
@@ -339,7 +339,7 @@ fn configure(settings: &mut Settings, statement: &Statement<'_>) -> Result<(), T
     }
 }
 
-/// What is wrong with a line behind the configuration that has this fault as a command.
+/// What is wrong with a line after the configuration that has this fault as a command.
 fn fault_behind(words: &[&[u8]], fault: LineFault) -> LineFault
     ensures { (config : Config) → IsFaultOfCommand config (map (λ w. w.now) words.now) fault
         → IsFaultBehind config (map (λ w. w.now) words.now) result }

@@ -1,4 +1,4 @@
-//! The lines of a trace behind its first. The text of each is put together before it is written, since a log has one
+//! The lines of a trace after its first. The text of each is put together before it is written, since a log has one
 //! for each access.
 ghost use Rattle.std.specs.Prelude.{◌≡◌, ◌+◌, ◌≤◌, [], ◌++◌, length, codes, decimal, OnOk};
 ghost use Rattle.std.specs.Fmt.{WritesInCalls};
@@ -68,7 +68,7 @@ fn push_entry(entry: &Entry, text: &mut LineText)
     text.push_str("\n");
 }
 
-/// Adds an access, behind a blank.
+/// Adds an access, after a blank.
 #[tactic(auto, unfolding(litmus_text::specs::Command::parts_of_op))]
 fn push_access(op: Op, word: WordAddr, text: &mut LineText)
     requires { length text.old.bytes ≤ 80 }
@@ -99,7 +99,7 @@ fn push_access(op: Op, word: WordAddr, text: &mut LineText)
     }
 }
 
-/// Adds a number, behind a blank.
+/// Adds a number, after a blank.
 fn push_number(number: u64, text: &mut LineText)
     requires { length text.old.bytes + 21 ≤ LINE_ROOM }
     ensures bytes { text.new.bytes ≡ text.old.bytes ++ (codes " " ++ decimal number) }

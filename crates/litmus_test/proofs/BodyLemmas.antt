@@ -82,7 +82,7 @@ length-with_step action [] = refl
 length-with_step action (p ∷ []) = refl
 length-with_step action (p ∷ q ∷ ps) = ap suc (length-with_step action (q ∷ ps))
 
--- the last thread then has the step behind those before
+-- the last thread then has the step after those before
 pub record IsLast (action : Action) (before : ℕ) (program : CoreId × List Action) : Type 0 where
   pub front : List Action
   pub steps : program.1 ≡ front ++ action ∷ []
@@ -204,7 +204,7 @@ at_program [] i t h = cc
 at_program (u ∷ ts) zero t h = let same : u ≡ t = cc in ap (λ (x : Thread). Some (program_of x)) same
 at_program (u ∷ ts) (suc i) t h = at_program ts i t h
 
--- the last thread has the new step behind those before
+-- the last thread has the new step after those before
 last_thread : (was now : List Thread) (action : Action) (i : ℕ) (t : Thread) → length was ≡ i + 1
     → map program_of now ≡ with_step action (map program_of was) → slice_get now i ≡ Some t
     → IsLast action (last_steps (map program_of was)) (program_of t)
@@ -239,7 +239,7 @@ some_element [] i h = absurd (omega arith)
 some_element (x ∷ xs) zero h = (x, refl)
 some_element (x ∷ xs) (suc i) h = some_element xs i (omega arith)
 
--- a step that was just taken comes behind those that have names
+-- a step that was just taken comes after those that have names
 new_later : (test : LitmusTest) (i step : ℕ) → vec_len test.threads ≡ i + 1
     → step ≡ last_steps (map program_of test.threads.items)
     → All (λ (a : NamedReply). a.thread ≡ i → a.step < step) test.names.items
@@ -422,7 +422,7 @@ pub with_forbidden : (said : Said) (fs gs : List (List Pair)) → fs ≡ gs
     record said { forbidden = gs } in one ≡ other
 with_forbidden said fs gs same = ap (λ xs. let s : Said = record said { forbidden = xs } in s) same
 
--- the names behind which a name was put
+-- the names after which a name was put
 pub name_pushed : (was : LitmusTest) (before now : Vec NamedReply Global) (name : Bor (List ℕ)) (thread step : ℕ)
     → before ≡ was.names
     → (let n : NamedReply = record { name = name; thread = thread; step = step } in now.items ≡ before.items ++ n ∷ [])

@@ -39,7 +39,7 @@ leave_only words done all h is =
     let more = h.only all is in
     more.1.0 ∙ ap (λ xs. done ++ xs) (no_more more.0 more.1.1) ∙ append-nil done
 
--- the claim of a word, and those behind it
+-- the claim of a word, and those after it
 split_claim : (word : List ℕ) (left : List (List ℕ)) (more : List (List ℕ × ℕ)) → AreClaims (word ∷ left) more
     → (claim : List ℕ × ℕ) × ((rest : List (List ℕ × ℕ)) × ((more ≡ claim ∷ rest) × IsClaim word claim.0 claim.1
     × AreClaims left rest))

@@ -86,7 +86,7 @@ left_among version start said all left (text_faults.Config error) reading wrong 
 left_among version start said all left text_faults.NoMemory reading wrong = tt
 left_among version start said all left text_faults.CannotWrite reading wrong = absurd wrong
 
--- what is wrong behind the first line is wrong with the text
+-- what is wrong after the first line is wrong with the text
 pub among_text : (statements rest : List (ℕ × List (List ℕ))) (number : ℕ) (first : List (List ℕ)) (version : Version)
     (fault : TextFault) → statements ≡ (number, first) ∷ rest → Writes first (parts_of_first version)
     → IsFaultAmong version said_nothing rest fault → IsFault statements fault
@@ -181,7 +181,7 @@ no_setting_line version preamble number words fault begins none form = (
       (λ astray. absurd (nothing_astray preamble words begins astray)) (λ here. refl),
 )
 
--- a setting behind the first thread, or behind an outcome where no thread came
+-- a setting after the first thread, or after an outcome where no thread came
 pub late_setting : (version : Version) (said : Said) (words : List (List ℕ)) (s : Setting) → WritesSetting words s
     → said.threads ≢ [] → IsWrong version said words line_faults.LateConfiguration
 unfolding HasFault

@@ -30,7 +30,7 @@ use Rattle.litmus_test.specs.Reading.{IsBegun, IsReading, IsNoMemoryOr, IsNoNext
 use Rattle.litmus_test.proofs.BodyLemmas.{length-with_step}
 use Rattle.litmus_test.proofs.LineLemmas.{no_empty_line, only_setting, setting_name}
 
--- what statements say, and what others say behind them, both say together
+-- what statements say, and what others say after them, both say together
 pub says_append : (version : Version) (start said whole : Said) (done left : List (ℕ × List (List ℕ)))
     → Says version start done said → Says version said left whole → Says version start (done ++ left) whole
 unfolding Says
@@ -255,7 +255,7 @@ no_unchecked_line version said (word ∷ words) begins none unchecked (evict l) 
     omega (arith, may.0.begun, ap length none)
 no_unchecked_line version said (word ∷ words) begins none unchecked (forbid claims) written may = unchecked may.checked
 
--- what statements say behind others, all say
+-- what statements say after others, all say
 pub say_behind : (version : Version) (start said : Said) (all left : List (ℕ × List (List ℕ))) (whole : Said)
     → IsReading version start said all left → SayOnly version said left whole → SayOnly version start all whole
 say_behind version start said all left whole reading only = record {
@@ -360,7 +360,7 @@ other_test text number first rest version whole statements only test =
     subst (λ v. Says v said_nothing rest whole) one
     (subst (λ ss. Says test.version said_nothing ss whole) same_rest test.says)
 
--- a line at fault behind the first is the text's
+-- a line at fault after the first is the text's
 pub at_fault : (statements rest : List (ℕ × List (List ℕ))) (number : ℕ) (first : List (List ℕ)) (version : Version)
     (fault : TextFault) → statements ≡ (number, first) ∷ rest → Writes first (parts_of_first version)
     → IsAtLine (IsFirstFault (AreLines version said_nothing) rest) fault → IsAtLine (IsFaultAt statements) fault

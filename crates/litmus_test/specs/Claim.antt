@@ -20,7 +20,7 @@ pub record IsClaim (word name : List ℕ) (value : ℕ) : Type 0 where
   pub behind : IsNumber (drop (at + 1) word)
   pub value_is : digits_value 10 (drop (at + 1) word) ≡ value
 
--- each word claims what stands at its place: a name and a value
+-- each word claims what is at its place: a name and a value
 unfoldable pub AreClaims : List (List ℕ) → List (List ℕ × ℕ) → Type 0
 AreClaims [] [] = Unit {0}
 AreClaims [] (claim ∷ claims) = ⊥

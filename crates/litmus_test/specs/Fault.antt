@@ -88,7 +88,7 @@ HasForbidFault said claims fault =
     (list_all (λ (claim : List ℕ × ℕ). has_name claim.0 said.names) claims ≡ false)
     × (fault ≡ line_faults.UnknownName)
 
--- what is wrong with a line behind what was said: the first of these
+-- what is wrong with a line after what was said: the first of these
 unfoldable pub HasFault : Said → Line → LineFault → Type 0
 HasFault said (setting s) fault = HasSettingFault said s fault
 HasFault said (thread core) fault = HasThreadFault said core fault
@@ -120,7 +120,7 @@ abbrev pub HasClaimsForm : List (List ℕ) → Type 0
 HasClaimsForm words =
     (1 ≤ length words) × (length words ≤ MOST_PAIRS) × IsTrue (list_all has_claim_form words)
 
--- the words behind a keyword have the form of its line, with any words for numbers
+-- the words after a keyword have the form of its line, with any words for numbers
 abbrev pub HasForm : Version → Keyword → List (List ℕ) → Type 0
 HasForm version keywords.Thread words = length words ≡ 1
 HasForm version keywords.Load words = (length words ≡ 2) × IsTrue (is_name (get_or words 1 []))
@@ -158,7 +158,7 @@ IsMalformed version words fault =
     (BeginsAsSetting words × IsFormFaultOf parts_of_setting words fault)
     ⊎ ((¬ BeginsAsSetting words) × IsLineFault version words fault)
 
--- what is wrong with words that write no line, behind what was said: their part comes before their form
+-- what is wrong with words that write no line, after what was said: their part comes before their form
 pub record IsNoLine (version : Version) (said : Said) (words : List (List ℕ)) (fault : LineFault) : Type 0 where
   pub none : (line : Line) → ¬ WritesLine version words line
   pub astray : IsAstray said (keyword_of words) → fault ≡ line_faults.NotACommand
@@ -166,7 +166,7 @@ pub record IsNoLine (version : Version) (said : Said) (words : List (List ℕ)) 
 
 -- ---- the text
 
--- what is wrong with words behind what was said: with the line that they write, or else that they write none
+-- what is wrong with words after what was said: with the line that they write, or else that they write none
 abbrev pub IsWrong : Version → Said → List (List ℕ) → LineFault → Type 0
 IsWrong version said words fault =
     ((line : Line) × WritesLine version words line × HasFault said line fault) ⊎ IsNoLine version said words fault

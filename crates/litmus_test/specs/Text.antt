@@ -173,7 +173,7 @@ abbrev pub AreLines : Version → Said → List (ℕ × List (List ℕ)) → Typ
 AreLines version said statements = (whole : Said) × Says version said statements whole
 
 -- The line at fault of a text, by its statements: line 1 where there are none, the first of them where it begins no
--- litmus test, and else the first at fault behind it.
+-- litmus test, and else the first at fault after it.
 abbrev pub IsFaultAt : List (ℕ × List (List ℕ)) → ℕ → Type 0
 IsFaultAt [] number = number ≡ 1
 IsFaultAt (first ∷ rest) number =

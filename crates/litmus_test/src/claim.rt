@@ -18,7 +18,7 @@ pub(super) struct Claim<'a> {
     pub value: u64,
 }
 
-/// A name, and the word behind the `=`, whether it is a number or not.
+/// A name, and the word after the `=`, whether it is a number or not.
 #[derive(Clone, Copy)]
 struct Sides<'a> {
     name: &'a [u8],

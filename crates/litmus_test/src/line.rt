@@ -18,7 +18,7 @@ use super::version::Version;
 use arrayvec::ArrayVec;
 use litmus_text::{LineFault, no_numbers, one_number, parse_number, two_numbers};
 
-/// What a line says behind the settings. Cores, words and lines are numbers that the machine may lack.
+/// What a line says after the settings. Cores, words and lines are numbers that the machine may lack.
 #[derive(Drop)]
 pub(super) enum Line<'a> {
     Thread(u64),

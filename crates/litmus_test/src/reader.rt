@@ -111,7 +111,7 @@ impl<'a> LitmusTest<'a> {
         !self.forbidden.is_empty()
     }
 
-    /// Reads a line behind the first that is no setting.
+    /// Reads a line after the first that is no setting.
     fn read_next(
         &mut self,
         alloc: Global,
@@ -138,7 +138,7 @@ impl<'a> LitmusTest<'a> {
         self.read_line(alloc, version, statement)
     }
 
-    // The fault of a setting behind the first thread, or behind a `forbid` where no thread came.
+    // The fault of a setting after the first thread, or after a `forbid` where no thread came.
     fn late_fault(&self, words: &[&[u8]]) -> LineFault
         requires begun { IsBegun (said_by self.now) }
         requires begins { BeginsAsSetting (map (λ w. w.now) words.now) }
@@ -192,7 +192,7 @@ impl Preamble {
     }
 }
 
-/// Reads the lines behind the first.
+/// Reads the lines after the first.
 fn read_statements<'a>(
     alloc: Global,
     version: Version,

@@ -40,7 +40,7 @@ impl Version {
     }
 }
 
-// The version, behind the word that all litmus tests begin with.
+// The version, after the word that all litmus tests begin with.
 #[tactic(auto, using(litmus_text::proofs::FormLemmas::wrong_count))]
 fn version_of(words: &[&[u8]]) -> Result<Version, LineFault>
     ensures written { IfOk result (λ version. Writes (map (λ w. w.now) words.now) (key (number_of version) ∷ [])) }

@@ -81,7 +81,7 @@ pub refused_access : {X T : Type 0} (text : X → List ℕ) (words : List X) (r 
 refused_access text words r =
     IfErr-weaker r _ _ (λ fault wrong op word. form_refuses parts_of_access (map text words) fault wrong (op, word))
 
--- ---- what is wrong behind a name is wrong with the access
+-- ---- what is wrong after a name is wrong with the access
 
 only_load : (words : List (List ℕ)) (P : Op × ℕ → Type 0) → ((word : ℕ) → P (ops.Load, word))
     → (op : Op) (word : ℕ) → HasForm (codes "load" ∷ words) (parts_of_op op word) → P (op, word)

@@ -99,7 +99,7 @@ one_part part some = grind (arith, nat_tests)
 no_blanks : (bs : List ℕ) → length bs ≤ position_or_len is_blank bs → All (λ b. is_blank b ≡ false) bs
 no_blanks bs h = λ k d below. fails_before_first is_blank bs k d (omega arith)
 
--- the words of a text are its first part, where that has bytes, and those behind the blank
+-- the words of a text are its first part, where that has bytes, and those after the blank
 words_of_part : (bs : List ℕ) → words bs ≡ parts_with_bytes (take (position_or_len is_blank bs) bs ∷ [])
     ++ words (drop (position_or_len is_blank bs + 1) bs)
 words_of_part bs =
@@ -128,6 +128,6 @@ row_goes_on row line at end e so_far =
     ap (λ k. drop k line) (omega arith) ∙ sym (drop-drop (p + 1) at line) in
     rw (append_assoc, long, next) (ap (λ ws. row ++ ws) (sym (words_of_part (drop at line))) ∙ so_far)
 
--- behind the line there are none
+-- after the line there are none
 pub words_behind : (line : List ℕ) (at : ℕ) → length line ≤ at → words (drop at line) ≡ []
 words_behind line at end = ap words (drop_all at line end)

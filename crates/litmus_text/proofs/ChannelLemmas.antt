@@ -59,7 +59,7 @@ reads_none {config} {words} fault r is wrong =
     let p = err_from_is_err_and r is in
     rw p.1 (record { written = tt; in_range = tt; fault = subst (IsFaultOfPick config words) (sym p.2) wrong })
 
--- ---- what is wrong behind a class is wrong with the channel
+-- ---- what is wrong after a class is wrong with the channel
 
 behind_class : {X : Type 0} (config : Config) (name : List ℕ) (words : List (List ℕ)) (behind : X → List Part)
     (Has : X → Type 0) (pick : X → Pick)

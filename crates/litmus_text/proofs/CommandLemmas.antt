@@ -67,7 +67,7 @@ refuses config words line_faults.BadNumber wrong command read = wrong.1 command 
 refuses config words line_faults.OutOfRange wrong command read = wrong.1 command (read.written, read.tag) read.in_range
 refuses config words other wrong command read = wrong
 
--- ---- what is wrong behind a verb is wrong with the command
+-- ---- what is wrong after a verb is wrong with the command
 
 behind_verb : {X : Type 0} (config : Config) (name : List ℕ) (words : List (List ℕ)) (behind : X → List Part)
     (Has : X → Type 0) (command : X → Command)
@@ -211,7 +211,7 @@ pump_fault config words Has =
     behind_verb config (codes "pump") words one_part Has (λ p. commands.Pump p)
     (λ P h. only_pump words P (λ calls. h calls)) (λ p. refl) (λ p. tt)
 
--- ---- what is wrong with the words behind `issue`: a core, a tag and an access
+-- ---- what is wrong with the words after `issue`: a core, a tag and an access
 
 abbrev issued : CoreId → ℕ → Op → ℕ → Command
 issued core tag op word = commands.Issue core (record { op = op; word = record { 0 = word }; tag = tag })

@@ -1,4 +1,4 @@
--- What is wrong behind the name of a field is wrong with the line that configures.
+-- What is wrong after the name of a field is wrong with the line that configures.
 use Rattle.std.proofs.Common.{◌≢◌, ℕ, Bool, List, [], ◌∷◌, Result, IfErr, arith, map, refl}
 use Rattle.std.proofs.lemmas.Grind.{common_steps}
 use Rattle.std.proofs.lemmas.Result.{IfErr-weaker}

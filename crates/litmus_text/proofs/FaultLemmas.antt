@@ -38,7 +38,7 @@ fault_of_part FormX SaysX HasX FormY SaysY HasY line only form formed says said 
 )
 fault_of_part FormX SaysX HasX FormY SaysY HasY line only form formed says said has says_form other h = h
 
--- .. and so with lines that begin with a keyword, by what stands behind it
+-- .. and so with lines that begin with a keyword, by what follows it
 pub fault_behind : {X Y : Type 0} (name : List ℕ) (words : List (List ℕ)) (behind : X → List Part) (HasX : X → Type 0)
     (parts : Y → List Part) (SaysY HasY : Y → Type 0) (line : X → Y)
     → ((P : Y → Type 0) → ((x : X) → P (line x)) → (y : Y) → HasForm (name ∷ words) (parts y) → P y)

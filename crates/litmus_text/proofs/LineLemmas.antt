@@ -30,7 +30,7 @@ lines_without_feed text some e =
     let part = slice_split_none f text (no_feed text nowhere) in
     ap lines_of_parts part ∙ one_part text some
 
--- what stands before the first line feed is the first line
+-- what is before the first line feed is the first line
 pub lines_at_feed : (text : List ℕ) (end : ℕ) → position (λ b. b == 10) text ≡ Some end →
     lines text ≡ strip_carriage_return (take end text) ∷ lines (drop (end + 1) text)
 lines_at_feed text end e =

@@ -42,7 +42,7 @@ pub unnamed_fault : (name : List ℕ) (rest : List (List ℕ)) → ((policy : Po
 unfolding IsFaultOf
 unnamed_fault name rest other = no_policy name rest other
 
--- ---- what is wrong behind a name is wrong with the policy
+-- ---- what is wrong after a name is wrong with the policy
 
 only_lru : (words : List (List ℕ)) (P : PolicyKind → Type 0) → P policy_kinds.Lru
     → (kind : PolicyKind) → HasForm (codes "lru" ∷ words) (parts_of_policy kind) → P kind

@@ -71,7 +71,7 @@ after_begin : (bs : List ℕ) (end : ℕ) → is_blank (get_or bs 0 0) ≡ false
 after_begin bs zero begins ends = absurd (false≢true (sym begins ∙ ends))
 after_begin bs (suc n) begins ends = omega arith
 
--- what stands before the first blank is the first word, where that isn't empty
+-- what is before the first blank is the first word, where that isn't empty
 pub words_to_blank : (bs : List ℕ) (end : ℕ) → is_blank (get_or bs 0 0) ≡ false → position is_blank bs ≡ Some end →
     words bs ≡ take end bs ∷ words (drop (end + 1) bs)
 words_to_blank bs end begins e =

@@ -53,7 +53,7 @@ parts_of_config_line (config_lines.Exclusive is_on) = key (name_of fields.Exclus
 parts_of_config_line (config_lines.Init word value) = key (name_of fields.Init) ∷ num word.0 ∷ num value ∷ []
 parts_of_config_line (config_lines.Counter word) = key (name_of fields.Counter) ∷ num word.0 ∷ []
 
--- what is wrong with words that begin as such a line, behind the configuration: their form, or else their place
+-- what is wrong with words that begin as such a line, after the configuration: their form, or else their place
 abbrev pub IsLateFault : List (List ℕ) → LineFault → Type 0
 IsLateFault words fault =
     IsFormFaultOf parts_of_config_line words fault

@@ -59,7 +59,7 @@ impl ConfigLine {
         }
     }
 
-    /// What is wrong with words that begin as a configuration line, behind the configuration.
+    /// What is wrong with words that begin as a configuration line, after the configuration.
     pub fn late_fault(words: &[&[u8]]) -> LineFault
         ensures { IsLateFault (map (λ w. w.now) words.now) result }
     {

@@ -9,7 +9,7 @@
 //!   names; at Err there is no such command (specs/Command.antt). Words that have the form of a command, with any words
 //!   for numbers, aren't refused as no command; words that write one are refused only as out of range.
 //!   [`parse_access`] reads the access in it, which traces write alike.
-//! - [`Slot::behind`] says what can stand behind a keyword of a script, for whoever explains a line that isn't read.
+//! - [`Slot::behind`] says what can follow a keyword of a script, for whoever explains a line that isn't read.
 //! - [`LineFault`] and [`TextFault`] say what is wrong with a text, and with which status a program ends.
 //!
 //! No call copies a text or takes memory, but `ConfigLine::set` at an initial value or a counter. Each byte is looked

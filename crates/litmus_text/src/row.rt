@@ -73,7 +73,7 @@ fn fill_by_blanks<'a>(row: &mut Row<'a>, line: &'a [u8], blanks: u64)
     }
 }
 
-/// Adds the part between two blanks, unless they stand side by side.
+/// Adds the part between two blanks, unless they are side by side.
 #[inline(always)]
 fn push_part<'a>(row: &mut Row<'a>, part: &'a [u8])
     requires { length row.old.items < MOST_WORDS }
@@ -114,7 +114,7 @@ fn part_end(line: &[u8], blanks: u64, at: usize) -> usize
     ensures part { result ≡ at + position_or_len is_blank (drop at line.now) }
     ensures within { (at ≤ result) × (result ≤ length line.now) }
 {
-    // Where no bit is set, it would end behind the block, and so behind the line.
+    // Where no bit is set, it would end after the block, and so after the line.
     let end = at + (blanks >> at).trailing_zeros() as usize;
     if end < line.len() { end } else { line.len() }
 }

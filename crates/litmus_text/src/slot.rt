@@ -24,7 +24,7 @@ pub enum Slot {
 }
 
 impl Slot {
-    /// The places behind a keyword, where it is one of those that can stand at this one.
+    /// The places after a keyword, where it is one of those that can stand at this one.
     pub fn behind(self, keyword: &[u8]) -> Option<&'static [Slot]> {
         match self {
             Slot::Name => behind_name(keyword),

@@ -13,7 +13,7 @@ use Rattle.litmus_threads.specs.Crew.{AreDealt, has_thread, program_for}
 use Rattle.litmus_threads.specs.Program.{generator_of, program_of}
 use Rattle.litmus_threads.specs.Threads.{thread_at}
 
--- a core that passes a test goes behind those that did
+-- a core that passes a test goes after those that did
 passes : (test : CoreView → Bool) (cores : List CoreView) (v : CoreView) → test v ≡ true
     → filter test (cores ++ v ∷ []) ≡ filter test cores ++ v ∷ []
 passes test cores v so =

@@ -18,7 +18,7 @@ numbers_from number limit = range_with_len number (limit - number)
 pub all_numbers : (limit : ℕ) → numbers_from 0 limit ≡ range_with_len 0 limit
 all_numbers limit = let all : limit - 0 ≡ limit = omega arith in ap (range_with_len 0) all
 
--- the text of the next number, and then those of the numbers behind it
+-- the text of the next number, and then those of the numbers after it
 pub next_number : (text_of : ℕ → List ℕ) (number limit : ℕ) → number < limit
     → flat_map text_of (numbers_from number limit)
     ≡ text_of number ++ flat_map text_of (numbers_from (number + 1) limit)
@@ -26,7 +26,7 @@ next_number text_of number limit less =
     let one : limit - number ≡ suc (limit - (number + 1)) = omega (arith, less) in
     ap (λ (n : ℕ). flat_map text_of (range_with_len number n)) one
 
--- behind the last number there is none
+-- after the last number there is none
 pub last_number : (text_of : ℕ → List ℕ) (number limit : ℕ) → limit ≤ number
     → flat_map text_of (numbers_from number limit) ≡ []
 last_number text_of number limit past =
@@ -45,7 +45,7 @@ named-more log i d word sum added inside so_far adds =
 abbrev kept_of : Config → ℕ → List CounterValue → List CounterValue
 kept_of c slice counters = filter (λ counter. is_of_slice c slice counter.word) counters
 
--- A counter of the slice has its line, and then those behind it have theirs.
+-- A counter of the slice has its line, and then those after it have theirs.
 pub counters-more : (c : Config) (slice : ℕ) (log : List Entry) (counter : CounterValue) (rest : List CounterValue)
     → is_of_slice c slice counter.word ≡ true
     → text_of_counters c slice log (counter ∷ rest) ≡ text_of_counter c log counter ++ text_of_counters c slice log rest

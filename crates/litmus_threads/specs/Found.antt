@@ -26,7 +26,7 @@ abbrev pub LacksAReply : List Receipt → List (Option NamedRequest) → Type 0
 LacksAReply receipts named_requests = (named_request : Option NamedRequest) × Contains named_requests named_request
     × LacksReply receipts named_request
 
--- The outcome is the reply of each request, and behind these each counter's value.
+-- The outcome is the reply of each request, and after these each counter's value.
 pub record IsOutcomeIn (receipts : List Receipt) (counters : List CounterValue)
     (named_requests : List (Option NamedRequest))
     (values : List ℕ) : Type 0 where

@@ -1,4 +1,4 @@
--- The traces of a round: each slice's log, and behind it what the audit said of it.
+-- The traces of a round: each slice's log, and after it what the audit said of it.
 use Rattle.std.specs.Prelude.{◌≡◌, ◌⊎◌, ℕ, zero, suc, ◌==◌, ◌%◌, ◌^◌, nat_lt, if◌then◌else◌, List, [], ◌++◌, codes}
 use Rattle.std.specs.Prelude.{decimal, filter, length}
 use Rattle.std.specs.List.{flat_map, range_with_len}
@@ -50,7 +50,7 @@ abbrev pub text_of_counters : Config → ℕ → List Entry → List CounterValu
 text_of_counters c slice log counters =
     flat_map (text_of_counter c log) (filter (λ counter. is_of_slice c slice counter.word) counters)
 
--- a slice's log as a trace, and behind it what the audit said of it
+-- a slice's log as a trace, and after it what the audit said of it
 abbrev pub text_of_slice : Config → List CounterValue → ℕ → List Entry → List ℕ
 text_of_slice c counters slice log =
     heading_of c slice ++ (text_of_trace c.cores (init_of c slice) log ++ (text_of_cores c.cores log
@@ -64,7 +64,7 @@ pub record IsLogOf (c : Config) (cores : List CoreView) (slice : ℕ) (log : Lis
   pub legal : IsLegal (initially (init_of c slice)) log
   pub ordered : IsOrdered log
 
--- the traces of the slices below this number, one behind another: each of such a log
+-- the traces of the slices below this number, one after another: each of such a log
 abbrev pub AreTracesBelow : Config → List CoreView → List CounterValue → ℕ → List ℕ → Type 0
 AreTracesBelow c cores counters zero text = text ≡ []
 AreTracesBelow c cores counters (suc slice) text =

@@ -6,7 +6,7 @@
 //! - [`play_test`] does so, and writes the table of the outcomes. What was written, and what the exit status says,
 //!   stands in specs/Run.antt.
 //! - [`trace_test`] plays one round, and writes each slice's log as a trace, put together from the audit's receipts
-//!   (src/log.rt), with comment lines behind it (src/notes.rt). What is written stands in specs/Trace.antt.
+//!   (src/log.rt), with comment lines after it (src/notes.rt). What is written stands in specs/Trace.antt.
 //!
 //! No clause says what threads do. So each round sees for itself that every core has asked for just what its thread
 //! says, in each slice in the thread's order (src/made.rt), and doesn't count as played otherwise. An outcome that is

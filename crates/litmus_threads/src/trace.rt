@@ -31,7 +31,7 @@ use std::sync::Wait;
 use std::thread::Threads;
 
 /// Plays the round of this number, whether a run of the test has it or not, and writes the log of each slice as a
-/// trace, with what the audit said of it in comment lines behind it; or that the round was stuck. Returns the exit
+/// trace, with what the audit said of it in comment lines after it; or that the round was stuck. Returns the exit
 /// status, which is 1 where it was. To put the logs together takes time that grows with the square of the accesses.
 pub fn trace_test<R: Threads + Wait + Sync, W: Write>(
     alloc: Global,
@@ -69,7 +69,7 @@ fn tell_stuck<W: Write>(round: u64, out: &mut W) -> Result<(), TextFault>
     written(write_stuck(round, OutcomeForm::Table, &mut answers))
 }
 
-// Writes the trace of each slice, one behind another.
+// Writes the trace of each slice, one after another.
 fn write_traces<W: Write>(
     alloc: Global,
     config: &Checked,
@@ -114,7 +114,7 @@ fn write_slice<W: Write>(
     ))
 }
 
-// Writes a slice's log as a trace, and behind it what the audit said of it.
+// Writes a slice's log as a trace, and after it what the audit said of it.
 fn write_log<W: fmt::Write>(
     config: &Checked,
     slice: SliceId,

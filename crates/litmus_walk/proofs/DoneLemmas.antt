@@ -17,7 +17,7 @@ use Rattle.litmus_walk.specs.declared.place.Place.{Place}
 use Rattle.litmus_walk.specs.declared.place.StepPlace.{StepPlace}
 use Rattle.litmus_walk.specs.declared.recorded.Made.{Made}
 
--- ---- what stands at a place of a list
+-- ---- what is at a place of a list
 
 pub some-is : {X : Type 0} (x y : X) → Some x ≡ Some y → x ≡ y
 some-is x y same = subst (λ found. IsSomeAnd found (λ z. x ≡ z)) same refl
@@ -96,7 +96,7 @@ zero-at [] i step zeros is = absurd (subst (λ found. IsSomeAnd found (λ z. z �
 zero-at (first ∷ steps) zero step zeros is = sym (some-is first step is) ∙ zeros.0
 zero-at (first ∷ steps) (suc i) step zeros is = zero-at steps i step zeros.1 is
 
--- Threads that stand before their first step.
+-- Threads that are before their first step.
 pub first-zeros : (count : ℕ) → AllByRecursion (λ s. s ≡ 0) (steps_of (replicate count first_place))
 first-zeros zero = tt
 first-zeros (suc count) = (refl, first-zeros count)
@@ -141,7 +141,7 @@ done-still threads steps calls made none = λ have number thread step is_thread 
     ∙ append-nil (actions_by number calls)
     ∙ have number thread step is_thread is_step
 
--- A thread goes on behind the step at which it stands, by calls that do just this.
+-- A thread goes on after the step at which it stands, by calls that do just this.
 done-by : (threads : List Thread) (steps : List ℕ) (calls more : List Made) (at : StepPlace)
     (thread : Thread) (action : Action)
     → slice_get threads at.thread ≡ Some thread → slice_get thread.steps.items at.step ≡ Some action

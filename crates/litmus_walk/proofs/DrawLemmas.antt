@@ -9,7 +9,7 @@ use Rattle.litmus_walk.specs.Drawn.{Draws, MakesAll, drawn_move}
 use Rattle.litmus_walk.specs.Moves.{Goes, WalkState, moves_of}
 use Rattle.litmus_walk.specs.declared.moves.Move.{Move}
 
--- so many moves were made, which took the generator from there to here: whatever is made behind them goes on from there
+-- so many moves were made, which took the generator from there to here: whatever is made after them goes on from there
 abbrev pub HasMade : List Thread → List LineAddr → List ℕ → List ℕ → ℕ → WalkState → WalkState → Type 0
 HasMade threads lines first last count old new =
     (end : WalkState) (more : List Move) → MakesAll threads lines last more new end
@@ -20,7 +20,7 @@ pub made_none : (threads : List Thread) (lines : List LineAddr) (generator : Lis
     → HasMade threads lines generator generator 0 state state
 made_none threads lines generator state = λ end more makes. (more, makes, omega arith)
 
--- one more behind the others
+-- one more after the others
 pub made_more : (threads : List Thread) (lines : List LineAddr) (first last after : List ℕ) (count : ℕ)
     (start now next : WalkState) (to : Move)
     → HasMade threads lines first last count start now

@@ -61,7 +61,7 @@ AreDone threads calls =
 abbrev pub GoesOn : List Thread → List ℕ → List Made → List ℕ → List Made → Type 0
 GoesOn threads steps calls new_steps new_calls = HaveDone threads steps calls → HaveDone threads new_steps new_calls
 
--- each thread stands behind its last step
+-- each thread follows its last step
 abbrev pub AreAtEnd : List Thread → List ℕ → Type 0
 AreAtEnd threads steps =
     (number : ℕ) (thread : Thread) → slice_get threads number ≡ Some thread

@@ -43,7 +43,7 @@ abbrev pub drawn_move : ℕ → List Move → Option Move
 drawn_move word moves = slice_get moves (word % length moves)
 
 -- These moves are made, one after another. Each is drawn from those that may come next, by the next word of the
--- generator that stands there.
+-- generator that is there.
 abbrev pub MakesAll : List Thread → List LineAddr → List ℕ → List Move → WalkState → WalkState → Type 0
 MakesAll threads lines generator [] old new = new ≡ old
 MakesAll threads lines generator (to ∷ more) old new =

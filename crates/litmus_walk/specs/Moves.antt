@@ -47,7 +47,7 @@ state_of walk places replies = record { walk = walk; places = places; replies = 
 
 -- ---- what may come next
 
--- the lowest tag under which a thread that stands there waits for nothing
+-- the lowest tag under which a thread that is there waits for nothing
 abbrev pub free_tag : Place → Option ℕ
 free_tag place = position not place.waits
 
@@ -62,7 +62,7 @@ can_step place (Some actions.Settle) = is_settled place
 can_step place (Some (actions.Evict line)) = true
 can_step place None = false
 
--- .. of a thread that stands there
+-- .. of a thread that is there
 abbrev pub can_go : Option Thread → Option Place → Bool
 can_go (Some thread) (Some place) = can_step place (slice_get thread.steps.items place.step)
 can_go thread place = false
@@ -104,7 +104,7 @@ abbrev pub with_change_at : ℕ → (Place → Place) → List Place → List Pl
 with_change_at thread change places =
     option_map_or (λ place. slice_set places thread (change place)) (slice_get places thread) places
 
--- the thread goes on behind the step
+-- the thread goes on after the step
 abbrev pub gone_behind : StepPlace → List Place → List Place
 gone_behind at places = with_change_at at.thread (λ place. record place { step = at.step + 1 }) places
 
@@ -142,7 +142,7 @@ Takes thread place at (Some (actions.Evict line)) old new =
     × (new.places ≡ gone_behind at old.places) × (new.replies ≡ old.replies)
 Takes thread place at None old new = new ≡ old
 
--- the next step of a thread that stands there is made
+-- the next step of a thread that is there is made
 abbrev pub Steps : ℕ → Option Thread → Option Place → WalkState → WalkState → Type 0
 Steps number (Some thread) (Some place) old new =
     Takes thread place (record { thread = number; step = place.step }) (slice_get thread.steps.items place.step) old new

@@ -24,7 +24,7 @@ text_of_step None = []
 text_of_step (Some at) =
     codes "# thread " ++ (decimal at.thread ++ (codes ", step " ++ (decimal at.step ++ codes "\n")))
 
--- the line of a call, behind such a comment
+-- the line of a call, after such a comment
 abbrev pub text_of_call : Made → List ℕ
 text_of_call made = text_of_step made.step ++ line_of_parts (parts_of made.command)
 
@@ -40,7 +40,7 @@ abbrev pub status_of : End → ℕ
 status_of ends.Over = 0
 status_of end = 1
 
--- The walk that the seed draws, with `most` moves at most, is printed as a script, behind what was written before. Status
+-- The walk that the seed draws, with `most` moves at most, is printed as a script, after what was written before. Status
 -- 0 says that it is over.
 pub record PrintsWalk (test : LitmusTest) (bound : Bound) (seed most status : ℕ) (before after : Option (List ℕ)) :
     Type 0

@@ -2,7 +2,7 @@
 //!
 //! A round is a walk: at each turn one of the possible moves is drawn, each as likely as the others ([`Xoshiro256++`]
 //! of the round's seed): the next step of a thread, a delivery at a channel in which a message waits, or a hand-out of
-//! a reply that waits. It ends where there is no move left, or is given up behind so many ([`End`]). So the same seed
+//! a reply that waits. It ends where there is no move left, or is given up after so many ([`End`]). So the same seed
 //! walks the same way on every machine.
 //!
 //! - src/recorded.rt: a machine that keeps the calls that were made of it. Each call appends itself, and what the

@@ -108,7 +108,7 @@ fn push_hands(replies: &[Reply], moves: &mut Vec<Move>) -> Result<(), AllocError
     Ok(())
 }
 
-// Whether a thread that stands there may make this step, its next: an access has a free tag, and who settles waits for
+// Whether a thread that is there may make this step, its next: an access has a free tag, and who settles waits for
 // nothing.
 fn can_step(place: &Place, step: Option<&Action>) -> bool
     ensures { result ≡ can_step place.now (option_map (λ step. step.now) step.entry) }

@@ -72,7 +72,7 @@ fn print_script<W: io::Write>(
     }
 }
 
-/// Writes these calls of a new machine as a script: first what configures the machine, then each call, behind a comment
+/// Writes these calls of a new machine as a script: first what configures the machine, then each call, after a comment
 /// where a step made it.
 pub(crate) fn write_script<W: Write>(
     config: &Checked,

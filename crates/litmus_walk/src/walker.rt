@@ -152,7 +152,7 @@ impl<F: MissFile> Walker<F> {
         self.places.get(thread)?.free_tag()
     }
 
-    // The thread goes on behind the step.
+    // The thread goes on after the step.
     fn done(&mut self, at: StepPlace)
         requires { at.step + 1 < 2 ^ 64 }
         ensures recorded { self.new.recorded ≡ self.old.recorded }
@@ -228,7 +228,7 @@ impl<F: MissFile> Walker<F> {
         self.are_at_end(test) && self.recorded.is_quiet()
     }
 
-    // Whether each thread stands behind its last step.
+    // Whether each thread follows its last step.
     fn are_at_end(&self, test: &LitmusTest<'_>) -> bool
         ensures { IsTrue result ↔ AreAtEnd test.now.threads.items (steps_of self.now.places.items) }
     {
@@ -251,7 +251,7 @@ impl<F: MissFile> Walker<F> {
     }
 }
 
-// What was performed behind so many entries.
+// What was performed after so many entries.
 fn behind(log: &[Entry], before: usize) -> &[Entry]
     ensures { result.now ≡ drop before log.now }
 {

@@ -1,7 +1,7 @@
 //! The program `lockup`: reads its command line, and runs the text or prints the table or the model that it names, or
 //! answers lines of standard input one by one.
 //!
-//! Answers go to standard output, through one buffer. A fault goes to standard error as one line, behind all
+//! Answers go to standard output, through one buffer. A fault goes to standard error as one line, after all
 //! answers that came before it. Only a litmus test that runs over threads and programs of which rows are asked for
 //! start any.
 #![tactic(auto)]
@@ -40,7 +40,7 @@ const NO_JSON: &str = "--json: rows are put together as CSV alone";
 
 const NO_MEAN: &str = "--mean: a walk has outcomes, and no means";
 
-/// What is said of parts behind which a walk can't go on.
+/// What is said of parts after which a walk can't go on.
 const OTHER_ROUNDS: &str = "its parts are not the first of these rounds";
 
 /// How an answer is wanted.
@@ -92,7 +92,7 @@ where
     }
 }
 
-/// Does what the line asks for, which stands in these words.
+/// Does what the line asks for, which is in these words.
 fn run_line<R>(rt: &R, people: People, words: &[String], line: CommandLine<'_>) -> u8
 where
     R: Env + Files + Input + AllocGlobal + Print + Eprint + Threads + Wait + Sync,
@@ -125,7 +125,7 @@ where
     }
 }
 
-/// Puts the rows of the files together, or behind a litmus test the parts of its walk. Returns the exit status.
+/// Puts the rows of the files together, or after a litmus test the parts of its walk. Returns the exit status.
 fn merge<R>(rt: &R, people: People, words: &[String], json: bool, mean: bool) -> u8
 where
     R: Files + Input + AllocGlobal + Print + Eprint,
@@ -623,7 +623,7 @@ where
     }
 }
 
-/// Tells that a walk can't go on behind the parts of this file.
+/// Tells that a walk can't go on after the parts of this file.
 fn tell_other_rounds<R: Eprint>(
     rt: &R,
     people: People,

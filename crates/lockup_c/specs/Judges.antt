@@ -31,7 +31,7 @@ pub record HasNewHistories (held : Option Held) : Type 0 where
 
 -- ---- a word begins as a value
 
--- the value is noted behind those that were given
+-- the value is noted after those that were given
 pub record GivesWord (word value : ℕ) (was is : Histories) : Type 0 where
   pub inits : (r : ℕ) → inits_at is r ≡ (if row_of was.extent word == r
       then inits_at was r ++ (record { 0 = word }, value) ∷ [] else inits_at was r)

@@ -36,6 +36,6 @@ cause_by fates.Replaced written = causes.Replaced
 cause_by fates.Lost true = causes.TrueSharing
 cause_by fates.Lost false = causes.FalseSharing
 
--- why an access of the core to the word misses, behind these events
+-- why an access of the core to the word misses, after these events
 abbrev pub cause_of : ℕ → ℕ → List Event → Cause
 cause_of core word before = cause_by (fate_of core (word / 8) before) (is_written_since core word before)

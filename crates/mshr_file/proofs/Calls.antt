@@ -20,7 +20,7 @@ pushed_waits : (targets : List Target) (target : Target) → is_waited (targets 
 pushed_waits [] target = refl
 pushed_waits (first ∷ rest) target = refl
 
--- a target behind those of a register that serves the line
+-- a target after those of a register that serves the line
 pub joined : (registers : List Register) (i : ℕ) (line : ℕ) (read : Register) (target : Target) (pushed : List Target) →
     HasEachLineOnce registers → i < length registers → read ≡ get_or registers i no_register →
     serves line (get_or registers i no_register) ≡ true →

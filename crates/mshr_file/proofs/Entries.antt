@@ -1,4 +1,4 @@
--- How the registers change with the entries: one more behind the others, and the first of a line taken out.
+-- How the registers change with the entries: one more after the others, and the first of a line taken out.
 use Rattle.std.proofs.Common.{◌≡◌, ◌≢◌, ℕ, suc, ◌+◌, ◌<◌, ◌≤◌, ◌==◌, Bool, true, false, nat_lt, if◌then◌else◌, List, []}
 use Rattle.std.proofs.Common.{◌∷◌, ◌++◌, length, filter, map, take, refl, sym, ap, ⊎_elim, arith, ◌∙◌, get_or, Some}
 use Rattle.std.specs.Prelude.{◌||◌}
@@ -118,7 +118,7 @@ at_line-one line entry is = rw is refl
 at_line-none : (line : ℕ) (entry : Waiting) → (entry.line.0 == line) ≡ false → at_line line (entry ∷ []) ≡ []
 at_line-none line entry isnt = rw isnt refl
 
--- An entry behind the others is a target behind those of its line.
+-- An entry after the others is a target after those of its line.
 pub pushed_entry : (entries : List Waiting) (entry : Waiting) →
     AddsTarget (by_line entries) (by_line (entries ++ entry ∷ [])) entry.line.0 entry.target
 pushed_entry entries entry = record {

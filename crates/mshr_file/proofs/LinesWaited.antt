@@ -41,7 +41,7 @@ lines_of_table table kept =
     ap (λ rows. map (λ (row : Row). row.line) (filter (λ row. not (is_free_row row)) rows)) kept.rows
     ∙ lines_of_rows table.registers.items.items
 
--- a line behind others, the first of which is it or isn't
+-- a line after others, the first of which is it or isn't
 is_first : (first line : Local) (lines : List Local) → (first.0 == line.0) ≡ true
     → first ∷ lines ≡ with_line line (first ∷ lines)
 is_first first line lines same = rw same refl
@@ -105,7 +105,7 @@ pub register_waits : (misses : List Register) (place : ℕ) (register : Register
 register_waits misses place register file at =
     found misses place (λ k d within. file.waited k d within) at
   where
-    -- some target waits, in the first register or in those behind it
+    -- some target waits, in the first register or in those after it
     either : (here behind : List Target) → is_waited behind ≡ true → is_waited (here ++ behind) ≡ true
     either [] behind waits = waits
     either (target ∷ here) behind waits = refl

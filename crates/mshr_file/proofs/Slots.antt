@@ -85,7 +85,7 @@ unnamed : (slots : List Slot) (entries : List Waiting) (tag : ℕ) → slots ≡
 unnamed slots entries tag are none = ap (list_any (slot_named tag)) are
     ∙ any-map slot_of (slot_named tag) (named tag) (λ entry. refl) entries ∙ none
 
--- The table after an entry was put under a free tag, and its slot behind the others.
+-- The table after an entry was put under a free tag, and its slot after the others.
 pub put_in : (table after : EntryTable) (entry : Waiting) → IsEntryTable table → entry.target.tag < 64 →
     count_at (has_tag entry.target.tag) (waiting_in table) ≡ 0 →
     after.entries ≡ set table.entries entry.target.tag (Some entry) →

@@ -31,7 +31,7 @@ unfoldable pub by_line : List Waiting → List Register
 by_line [] = []
 by_line (entry ∷ entries) = put_first entry (by_line entries)
 
--- the lines with one more behind them, where it isn't among them
+-- the lines with one more after them, where it isn't among them
 abbrev pub with_line : Local → List Local → List Local
 with_line line lines = if list_any (λ other. other.0 == line.0) lines then lines else lines ++ line ∷ []
 

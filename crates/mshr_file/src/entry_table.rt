@@ -131,7 +131,7 @@ impl EntryTable {
         count_loads(self.order.as_slice(), line)
     }
 
-    /// Puts an entry behind the others.
+    /// Puts an entry after the others.
     pub fn push(&mut self, line: Local, target: Target)
         requires kept { IsEntryTable self.old }
         requires tag { target.tag < 64 }
@@ -252,7 +252,7 @@ fn lines_from(alloc: Global, slots: &[Slot]) -> Result<Vec<Local>, AllocError>
     Ok(lines)
 }
 
-/// Puts a line behind the others, where it isn't among them.
+/// Puts a line after the others, where it isn't among them.
 fn note_line(lines: &mut Vec<Local>, line: Local) -> Result<(), AllocError>
     ensures { OnOk result (lines.new.items ≡ with_line line lines.old.items) }
 {

@@ -21,7 +21,7 @@
 //!
 //! [`MissKind`] names one of them.
 //!
-//! Only [`MissFile::make`] and [`MissFile::lines`] take memory: registers and their rows stand in boxed slices, which
+//! Only [`MissFile::make`] and [`MissFile::lines`] take memory: registers and their rows are in boxed slices, which
 //! have no call that lets them grow, and entries lie in the value. A call searches a row of 16 bytes for each register
 //! of its file, at most 32, or for each entry that is in use, at most 64. A target is taken where it stands, and no
 //! other target moves; only [`MissFile::targets`], [`MissFile::take_loads`] and [`MissFile::close`] hand out a list,

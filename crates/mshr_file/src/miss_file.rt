@@ -79,7 +79,7 @@ pub trait MissFile: Sized + Drop {
         ensures sound { IsMissFile (misses self.new) }
         ensures bound { bound self.new ≡ bound self.old };
 
-    /// Adds a target to the line's register, behind the others.
+    /// Adds a target to the line's register, after the others.
     fn join(&mut self, line: Local, target: Target)
         requires found { has_miss (misses self.old) line.0 ≡ true }
         requires tag { target.tag < 64 }

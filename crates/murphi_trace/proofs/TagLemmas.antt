@@ -22,7 +22,7 @@ accesses_push core before rule =
     let one : accesses_of core (rule ∷ []) ≡ 0 + cond (is_access_of core rule) 1 0 = refl in
     omega (arith, one, sum_by-append (λ r. cond (is_access_of core r) 1 0) before (rule ∷ []))
 
--- behind an access its core has the access's tag, and no other core another
+-- after an access its core has the access's tag, and no other core another
 pub tags_more : (tags : List (Option ℕ)) (before : List Rule) (rule : Rule) (number tag : ℕ) → number < length tags
     → IsAccess number rule → tag ≡ accesses_of number before % 64 → AreTags tags before
     → AreTags (set tags number (Some tag)) (before ++ rule ∷ [])

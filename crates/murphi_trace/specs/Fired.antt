@@ -7,16 +7,16 @@ use Rattle.std.specs.Str.{bytes_eq}
 use Rattle.bstr.specs.Find.{first_of, matches}
 use Rattle.murphi_trace.specs.declared.fired.Fired.{Fired}
 
--- what stands behind a mark, of a text that begins with it
+-- what follows a mark, of a text that begins with it
 unfoldable pub behind : List ℕ → List ℕ → Option (List ℕ)
 behind mark text = if bytes_eq (take (length mark) text) mark then Some (drop (length mark) text) else None
 
--- what stands before a mark, of a text that ends with it
+-- what is before a mark, of a text that ends with it
 unfoldable pub before : List ℕ → List ℕ → Option (List ℕ)
 before mark text =
     if bytes_eq (drop (length text - length mark) text) mark then Some (take (length text - length mark) text) else None
 
--- what stands before a mark's first place in a text, and behind it
+-- what is before a mark's first place in a text, and after it
 unfoldable pub parts_around : List ℕ → List ℕ → Option (List ℕ × List ℕ)
 parts_around mark text = option_map (λ k. (take k text, drop (k + length mark) text)) (first_of (matches text mark 0))
 

@@ -10,7 +10,7 @@ abbrev pub last_tag : ℕ → Option ℕ
 last_tag zero = None
 last_tag (suc earlier) = Some (earlier % 64)
 
--- each core's last tag, behind those rules
+-- each core's last tag, after those rules
 abbrev pub AreTags : List (Option ℕ) → List Rule → Type 0
 AreTags tags before = (core : ℕ) → core < 10 → get_or tags core None ≡ last_tag (accesses_of core before)
 

@@ -21,7 +21,7 @@ the_line = record { 0 = 0 }
 unfoldable pub core_of : List ℕ → Option CoreId
 core_of text = if is_ascii_digit (slice_index text 0) then Some (record { 0 = slice_index text 0 - 48 }) else None
 
--- .. and whose number stands behind a mark's first place
+-- .. and whose number follows a mark's first place
 abbrev pub core_in : List ℕ × List ℕ → Option CoreId
 core_in parts = core_of parts.1
 
@@ -30,7 +30,7 @@ core_behind mark text = option_and_then core_in (parts_around mark text)
 
 -- ---- a rule of a core's copy: `STATE, EVENT: what is done`
 
--- what stands before the first comma
+-- what is before the first comma
 abbrev pub front_of : List ℕ → Option (List ℕ × List ℕ) → List ℕ
 front_of text None = text
 front_of text (Some parts) = parts.0
@@ -46,7 +46,7 @@ events_by_name =
     ∷ (codes "Put-Ack", events.Forwarded) ∷ (codes "Data", events.Data) ∷ (codes "Data-E", events.Data)
     ∷ (codes "Inv-Ack", events.InvAck) ∷ []
 
--- .. in front of what is done, behind the state
+-- .. in front of what is done, after the state
 abbrev pub behind_state : List ℕ × List ℕ → Option (List ℕ × List ℕ)
 behind_state parts = parts_around (codes ", ") parts.0
 
@@ -88,7 +88,7 @@ request_or_home (Some parts) = option_map request_of (core_of parts.1)
 unfoldable pub directory_event : List ℕ → Option Rule
 directory_event event = request_or_home (parts_around (codes " of ") event)
 
--- .. behind the entry, in front of what is done
+-- .. after the entry, in front of what is done
 abbrev pub behind_entry : List ℕ × List ℕ → Option (List ℕ × List ℕ)
 behind_entry parts = parts_around (codes ": ") parts.1
 

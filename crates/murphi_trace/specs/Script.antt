@@ -83,7 +83,7 @@ access_of accesses core op =
     hand_before accesses core
     ++ commands.Issue core (record { op = op; word = record { 0 = 0 }; tag = accesses % 64 }) ∷ []
 
--- the commands that do what a rule does, behind those rules
+-- the commands that do what a rule does, after those rules
 abbrev pub commands_of : List Rule → Rule → List Command
 commands_of before (rules.Load core) = access_of (accesses_of core.0 before) core ops.Load
 commands_of before (rules.Write core) = access_of (accesses_of core.0 before) core (ops.Add 1)
@@ -102,7 +102,7 @@ comment_of fired = codes "# " ++ (fired.0 ++ (fired.1 ++ codes "\n"))
 abbrev pub text_of_step : List Rule → Step → List ℕ
 text_of_step before step = comment_of step.0 ++ text_of_commands (commands_of before step.1)
 
--- the steps in order, behind those rules
+-- the steps in order, after those rules
 abbrev pub text_of_steps : List Rule → List Step → List ℕ
 text_of_steps before [] = []
 text_of_steps before (step ∷ more) = text_of_step before step ++ text_of_steps (before ++ step.1 ∷ []) more

@@ -38,7 +38,7 @@ fn between(line: &[u8]) -> Option<&[u8]>
     in_front(told, b" fired.")
 }
 
-/// What stands behind a mark, of a text that begins with it.
+/// What follows a mark, of a text that begins with it.
 pub(crate) fn behind<'a>(text: &'a [u8], mark: &[u8]) -> Option<&'a [u8]>
     ensures { option_map (λ rest. rest.now) result ≡ behind mark.now text.now }
 {
@@ -52,7 +52,7 @@ fn in_front<'a>(text: &'a [u8], mark: &[u8]) -> Option<&'a [u8]>
     text.strip_suffix(mark)
 }
 
-/// What stands before a mark's first place in a text, and behind it.
+/// What stands before a mark's first place in a text, and after it.
 pub(crate) fn parted<'a>(text: &'a [u8], mark: &[u8]) -> Option<(&'a [u8], &'a [u8])>
     ensures { option_map pair_of result ≡ parts_around mark.now text.now }
 {

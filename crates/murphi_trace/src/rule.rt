@@ -132,7 +132,7 @@ fn acknowledged(to: CoreId, cores: &[u8]) -> Option<Rule>
     }))
 }
 
-/// The core whose number stands behind a mark.
+/// The core whose number follows a mark.
 fn core_behind(text: &[u8], mark: &[u8]) -> Option<CoreId>
     ensures value { result ≡ core_behind mark.now text.now }
     ensures small { IfSome result (λ core. core.0 < 10) }

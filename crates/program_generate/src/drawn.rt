@@ -123,7 +123,7 @@ fn drawn_line(word: u64, ends: &[u64]) -> u64 {
     }
 }
 
-// Where the weight of each line ends, if they stand one behind another.
+// Where the weight of each line ends, if they stand one after another.
 fn zipf_ends(alloc: Global) -> Result<Vec<u64>, AllocError> {
     let mut ends = Vec::new(alloc);
     let mut end: u64 = 0;

@@ -9,7 +9,7 @@ use Rattle.program_rows.specs.Figures.{IsHalfWidth, IsLeastRoot, IsRoundedUp, sq
 pub product_split : (f n d : ℕ) → f * n ≡ f * (n / d) * d + f * (n % d)
 product_split f n d = grind (arith, div-add-mod' n d)
 
--- what is rounded up behind a whole multiple of the divisor is rounded up with it
+-- what is rounded up after a whole multiple of the divisor is rounded up with it
 pub rounded_up_behind : (whole rest d p : ℕ) → 0 < d → IsRoundedUp rest d p → IsRoundedUp (whole * d + rest) d (whole + p)
 rounded_up_behind whole rest d p pos h = (
   grind (arith, h.0),

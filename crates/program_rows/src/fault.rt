@@ -72,7 +72,7 @@ impl RowsFault {
         }
     }
 
-    /// The other file that it speaks of: its name stands behind the reason.
+    /// The other file that it speaks of: its name follows the reason.
     pub const fn other(&self) -> Option<usize> {
         match self {
             RowsFault::OtherColumns { other, .. } | RowsFault::OtherFigures { other, .. } => {

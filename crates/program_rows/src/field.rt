@@ -4,11 +4,11 @@ ghost use Rattle.program_rows.specs.Line.{IsSplit};
 
 use memchr::memchr;
 
-/// A field at the front of a text, and what is behind it.
+/// A field at the front of a text, and what is after it.
 #[derive(Clone, Copy)]
 pub(crate) struct Split<'a> {
     pub field: &'a [u8],
-    /// What follows the comma behind the field. Nothing does where the line ends with it.
+    /// What follows the comma after the field. Nothing does where the line ends with it.
     pub behind: Option<&'a [u8]>,
 }
 

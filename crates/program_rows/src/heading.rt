@@ -15,7 +15,7 @@ pub(crate) struct Heading {
     pub columns: Columns,
 }
 
-/// How many columns stand before `seed`, and how many behind it.
+/// How many columns stand before `seed`, and how many after it.
 #[derive(Clone, Copy, Debug)]
 pub(crate) struct Columns {
     pub settings: usize,

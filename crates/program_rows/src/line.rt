@@ -39,7 +39,7 @@ impl Place {
     }
 }
 
-/// The first line of a text, without its end, and what is behind it, unless the text ends within the line.
+/// The first line of a text, without its end, and what is after it, unless the text ends within the line.
 pub(crate) fn whole_line<'a>(text: &'a [u8]) -> Option<(&'a [u8], &'a [u8])> {
     let (line, rest) = text.split_at(memchr(b'\n', text)?);
     let (_, behind) = rest.split_first()?;
@@ -52,7 +52,7 @@ pub(crate) fn whole_line<'a>(text: &'a [u8]) -> Option<(&'a [u8], &'a [u8])> {
 /// What a row says.
 #[derive(Drop)]
 pub(crate) struct Line<'a> {
-    /// Its settings as they are written, with the comma behind each.
+    /// Its settings as they are written, with the comma after each.
     pub settings: &'a [u8],
     pub seed: u64,
     pub counts: Vec<Option<u64>>,
@@ -81,7 +81,7 @@ pub(crate) fn read_line<'a>(
     })
 }
 
-// A line behind so many fields, and what stands before it.
+// A line after so many fields, and what is before it.
 fn split_settings<'a>(settings: usize, line: &'a [u8]) -> Option<(&'a [u8], &'a [u8])> {
     let mut rest = line;
     for _ in 0..settings {

@@ -15,7 +15,7 @@ use std::io::Write;
 
 impl Rows {
     /// Prints a row for each combination: its settings, how many seeds it has, and of each count the mean and half the
-    /// width of its 95 % confidence interval, with three places behind the point. The mean is rounded to the nearest, half
+    /// width of its 95 % confidence interval, with three places after the point. The mean is rounded to the nearest, half
     /// up, half the width up. Both are over those rows that have the count, and empty where none has; one row has no
     /// interval. Where no file was read nothing is printed.
     pub fn write_means<W: Write>(&self, out: &mut W) -> Result<(), RowsFault> {

@@ -19,7 +19,7 @@ pub struct Rows {
     pub(crate) alloc: Global,
     /// That of the first file.
     pub(crate) heading: Option<Heading>,
-    /// The rows of each combination, by its settings. They stand in the order in which they first came.
+    /// The rows of each combination, by its settings. They are in the order in which they first came.
     pub(crate) combinations: IndexMap<Vec<u8>, Combination>,
     // No two have the same settings.
     ghost unique: { IsUnique (λ x y. pointwise nat_eq x.items y.items) combinations } by { Prim.hlevel props },

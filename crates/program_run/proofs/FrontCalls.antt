@@ -32,7 +32,7 @@ in-front [] ys k x within h = absurd (omega arith)
 in-front (z ∷ zs) ys zero x within h = h
 in-front (z ∷ zs) ys (suc k) x within h = in-front zs ys k x (omega (arith, within)) h
 
--- lines come into the ring behind the others, and nothing was sent to those in front
+-- lines come into the ring after the others, and nothing was sent to those in front
 pub front-kept : (count less : ℕ) (old new : PartsView) (more : List ℕ) → less ≤ count → new.ring ≡ old.ring ++ more
     → ((place local : ℕ) → place < less → slice_get new.ring place ≡ Some local → IsIdle old.view (record { 0 = local })
     → channels_at new.view (record { 0 = local }) ≡ channels_at old.view (record { 0 = local }))
@@ -52,7 +52,7 @@ front-kept count less old new more few grows same front =
           };
     }
 
--- a line that comes into the ring stands behind the others
+-- a line that comes into the ring follows the others
 pub listed : (ring : List ℕ) (local : ℕ) → (more : List ℕ) × (with_listed ring local ≡ ring ++ more)
 listed ring local = by (is_listed ring local)
   where

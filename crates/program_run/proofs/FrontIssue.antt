@@ -38,7 +38,7 @@ use Rattle.program_run.proofs.FrontCalls.{front-kept, listed}
 use Rattle.program_run.proofs.FrontLemmas.{line-named}
 use Rattle.program_run.specs.Front.{HasIdleFront}
 
--- lines came into the ring behind the others, and only to lines at these places something was sent
+-- lines came into the ring after the others, and only to lines at these places something was sent
 record SendsTo (At : ℕ → Type 0) (old new : PartsView) : Type 0 where
   more : List ℕ
   grows : new.ring ≡ old.ring ++ more

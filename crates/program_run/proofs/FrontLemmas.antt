@@ -1,4 +1,4 @@
--- The next delivery behind lines in which nothing waits.
+-- The next delivery after lines in which nothing waits.
 use Rattle.std.proofs.Common.{◌≡◌, ◌≢◌, ℕ, zero, suc, ◌+◌, ◌/◌, ◌%◌, ◌<◌, ◌≤◌, Bool, true, false, if◌then◌else◌}
 use Rattle.std.proofs.Common.{List, [], ◌∷◌, length, map, Option, Some, None, refl, sym, ap, ◌∙◌, subst}
 use Rattle.std.proofs.Common.{⊎_elim, arith}
@@ -96,14 +96,14 @@ line-named own line local =
         let same : here ≡ local = cc is in subst (λ (l : Local). line.0 ≡ (line_at own l).0) same (names refl)
     by false here names is = absurd (cc is)
 
--- a line stands at one place
+-- a line is at one place
 pub same-place : (own : Lines) (l found : Local) → IsOfMachine own → local_at own (line_at own l).0 ≡ Some found
     → found ≡ l
 same-place own l found machine is =
     let same : found.0 ≡ l.0 = sym (one_line own machine l found (line-named own (line_at own l) found is)) in
     ap (λ n. record { 0 = n }) same
 
--- what stands at a place of the ring
+-- what is at a place of the ring
 pub in-ring : {X Y : Type 0} (f : X → Y) (xs : List X) (i : ℕ) (y : Y) → slice_get (map f xs) i ≡ Some y
     → (x : X) × (slice_get xs i ≡ Some x) × (y ≡ f x)
 in-ring f [] i y is = absurd (cc is)
@@ -120,7 +120,7 @@ within-ring [] i x is = absurd (cc is)
 within-ring (y ∷ xs) zero x is = omega arith
 within-ring (y ∷ xs) (suc i) x is = let within = within-ring xs i x is in omega (arith, within)
 
--- behind the last line all are idle
+-- after the last line all are idle
 pub front-past : (p : PartsView) (count : ℕ) → HasIdleFront count p → None ≡ slice_get (ring_lines p) count
     → IsFront p count fronts.Idle
 front-past p count idle none =
@@ -219,7 +219,7 @@ next-none v (l ∷ ring) idle =
     (next-idle v (record { 0 = l }) (idle 0 l refl))
     ∙ next-none v ring (λ place m at. idle (suc place) m at)
 
--- the first message behind idle lines is next, where it can be moved
+-- the first message after idle lines is next, where it can be moved
 pub next-planned : (p : PartsView) (count : ℕ) (pick : Pick) (step : Transition) → HasIdleFront count p
     → IsFront p count (fronts.Waits pick) → planned_at p.view pick ≡ deliveries.Moved step
     → delivery_of (next_pick p classes.Any) ≡ delivery_if (Some pick)

@@ -445,7 +445,7 @@ known_core config slices slice p core machine found below =
     subst (λ (q : PartsView). length q.view.caches ≡ config.cores) same each.cores in
     omega (arith, cores, below)
 
--- the line that stands in the ring is none to which something was sent
+-- the line that is in the ring is none to which something was sent
 module _ (before : PartsView) (core : CoreId) (request : Request) (answer : Result Issue Refused) (after : PartsView)
     (known : core.0 < length before.view.caches) (made : AfterIssue before core request answer after) where
   unsent : (less : ℕ) → IsApart after less (line_of request.word) (last_written_back after.view core)

@@ -23,7 +23,7 @@ pub range-more : (n : ℕ) → range_with_len 0 (n + 1) ≡ range_with_len 0 n +
 range-more n = ap (range_with_len 0) (add-one n) ∙ range-suc 0 n n (omega arith)
 
 module _ {X : Type 0} (f : ℕ → X) (test : ℕ → Bool) where
-  -- one more that passes the test stands behind the others
+  -- one more that passes the test follows the others
   pub passes_more : (before now new : List X) (n : ℕ) → now ≡ before ++ map f (filter test (range_with_len 0 n))
       → test n ≡ true → new ≡ now ++ f n ∷ [] → new ≡ before ++ map f (filter test (range_with_len 0 (n + 1)))
   passes_more before now new n so_far passes pushed =
@@ -46,7 +46,7 @@ module _ {X : Type 0} (f : ℕ → X) (test : ℕ → Bool) where
       ∙ ap (λ xs. all ++ xs) last ∙ append-nil all in
       so_far ∙ ap (λ xs. before ++ map f xs) (sym more)
 
--- what comes of one more item stands behind what came of the others
+-- what comes of one more item follows what came of the others
 pub each_more : {X Y : Type 0} (f : X → List Y) (before now new : List Y) (xs : List X) (i : ℕ) (d : X) → i < length xs
     → now ≡ before ++ flat_map f (take i xs) → new ≡ now ++ f (get_or xs i d)
     → new ≡ before ++ flat_map f (take (i + 1) xs)
@@ -54,7 +54,7 @@ each_more f before now new xs i d within so_far grown =
     grown ∙ ap (λ all. all ++ f (get_or xs i d)) so_far ∙ flat_map_more f before (take i xs) (get_or xs i d)
     ∙ ap (λ these. before ++ flat_map f these) (sym (take_more xs i d within))
 
--- what stands at a place of a list
+-- what is at a place of a list
 pub at-place : {X : Type 0} (xs : List X) (i : ℕ) → i < length xs → (x : X) × (slice_get xs i ≡ Some x)
 at-place [] i below = absurd (omega (arith, below))
 at-place (x ∷ xs) zero below = (x, refl)

@@ -1,4 +1,4 @@
--- What slices have still to deliver behind an access.
+-- What slices have still to deliver after an access.
 use Rattle.std.proofs.Common.{◌≡◌, ◌≢◌, ℕ, zero, suc, ◌+◌, ◌<◌, ◌≤◌, List, [], ◌∷◌, ◌++◌, append-nil, ap, arith, drop}
 use Rattle.std.proofs.Common.{get_or, length, map, refl, sym, subst, take, ◌∙◌, Option, Some, None}
 use Rattle.std.specs.Prelude.{IfSome, slice_get, slice_index_or}
@@ -105,7 +105,7 @@ pub or_else_none : (these others : List Move) → or_else these others ≡ [] �
 or_else_none [] others none = none
 or_else_none (move ∷ more) others none = absurd (cc none)
 
--- what a slice has to deliver comes before that of the slices behind it
+-- what a slice has to deliver comes before that of the slices after it
 pub owed_here : (owed : List ℕ) (slices : List PartsView) (slice : ℕ) (new : List Move) → slice < length slices
     → IfSome (slice_get slices slice) (λ state. new ≡ [] ++ owed_in (slice_index_or owed slice 0) state)
     → owed_from owed slice (drop slice slices) ≡ or_else new (owed_from owed (slice + 1) (drop (slice + 1) slices))
@@ -119,7 +119,7 @@ owed_here owed slices slice new below is =
     (get_or_from_slice_get slices slice state state at)
     ∙ ap (λ these. or_else these (owed_from owed (slice + 1) (drop (slice + 1) slices))) (sym here)
 
--- behind the last slice there is nothing
+-- after the last slice there is nothing
 pub owed_past : (owed : List ℕ) (slices : List PartsView) (slice : ℕ) → length slices ≤ slice
     → owed_from owed slice (drop slice slices) ≡ []
 owed_past owed slices slice past = ap (owed_from owed slice) (drop_all slice slices past)

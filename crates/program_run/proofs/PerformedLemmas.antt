@@ -20,7 +20,7 @@ pub performed_none : (config : Config) (programs : Programs) (slice : ℕ) (all 
 performed_none config programs slice all runner =
     record { config = refl; goes = λ before seen. (before, seen, λ end performs. performs) }
 
--- one more behind the others
+-- one more after the others
 pub performed_more : (programs : Programs) (slice : ℕ) (is_first : Bool) (all : List Entry) (i : ℕ) (d : Entry)
     (start now next : RunnerView) → i < length all
     → Leads (HasPerformed start.config programs slice is_first (drop i all) all) start now

@@ -21,7 +21,7 @@ use Rattle.program_run.specs.declared.moves.Move.{Move}
 use Rattle.program_run.specs.declared.run.Form.{Form}
 use Rattle.program_run.proofs.OwedLemmas.{or_else_none}
 
--- so many moves were made, which took the generator from there to here: whatever is made behind them goes on from there
+-- so many moves were made, which took the generator from there to here: whatever is made after them goes on from there
 abbrev pub HasMade : Config → Programs → List ℕ → List ℕ → ℕ → List ℕ → RunState → RunState → Type 0
 HasMade config programs first last count owed old new =
     (end : RunState) (more : List Move) → MakesAll config programs last count owed more new end
@@ -34,7 +34,7 @@ pub made_none : (config : Config) (programs : Programs) (generator : List ℕ) (
 made_none config programs generator runner =
     record { config = refl; goes = λ before seen. (before, seen, λ end more makes. (more, makes, omega arith)) }
 
--- one more behind the others, it was measured what is in use, and rings were kept short
+-- one more after the others, it was measured what is in use, and rings were kept short
 pub made_more : (programs : Programs) (first last after : List ℕ) (count : ℕ) (owed left : List ℕ)
     (start now next : RunnerView) (to : Move) (tidied : List PartsView)
     → Leads (HasMade start.config programs first last count owed) start now

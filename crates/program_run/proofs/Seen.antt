@@ -24,7 +24,7 @@ use Rattle.program_run.specs.declared.observer.Observer.{Observer}
 use Rattle.program_run.specs.declared.tally.Counted.{Counted}
 use Rattle.program_run.specs.declared.tally.Counted.TheVariants as counted_kinds
 
--- one more is counted behind the others
+-- one more is counted after the others
 pub counted_more : (tally : TallyView) (all : List Counted) (what : Counted)
     → tally_after tally (all ++ what ∷ []) ≡ tally_with (tally_after tally all) what
 counted_more tally [] what = refl

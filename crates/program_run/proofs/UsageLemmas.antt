@@ -16,12 +16,12 @@ module _ {X : Type 0} (f : X → X) (all now : List X) (i : ℕ) where
       ∙ sym (append_assoc (take i now) (x ∷ []) rest)
       ∙ ap₂ (λ a b. a ++ map f b) (sym (take_more_set now i x below)) (sym (drop-set-lt (i + 1) now i x (omega arith)))
 
-  -- .. and behind the last all are
+  -- .. and after the last all are
   pub all_changed : length now ≤ i → all ≡ take i now ++ map f (drop i now) → now ≡ all
   all_changed past whole =
       sym (whole ∙ ap₂ (λ a b. a ++ map f b) (take_all i now past) (drop_all i now past) ∙ append-nil now)
 
--- what comes of one more number stands behind the others
+-- what comes of one more number follows the others
 pub one_listed : {Y : Type 0} (f : ℕ → Y) (now new : List Y) (n : ℕ) → now ≡ map f (range_with_len 0 n)
     → new ≡ now ++ f n ∷ [] → new ≡ map f (range_with_len 0 (n + 1))
 one_listed f now new n so_far pushed =

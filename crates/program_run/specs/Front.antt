@@ -1,4 +1,4 @@
--- The front of a slice's ring: lines in which nothing waits, and the first behind them.
+-- The front of a slice's ring: lines in which nothing waits, and the first after them.
 use Rattle.std.specs.Prelude.{◌≡◌, ◌≢◌, ℕ, ◌<◌, ◌≤◌, List, [], ◌∷◌, length, slice_get, slice_index_or, Option, None, Some}
 use Rattle.address_map.specs.Locator.{line_at, local_at}
 use Rattle.address_map.specs.declared.address.CoreId.{CoreId}
@@ -52,7 +52,7 @@ IsLineFront v line place fronts.Unknown = Unit {0}
 IsLineFront v line place fronts.Idle = (local : Local) × (place ≡ Some local) × IsIdle v local
 IsLineFront v line place (fronts.Waits pick) = (local : Local) × WaitsFirst v line local pick
 
--- what stands in the ring behind so many lines
+-- what is in the ring after so many lines
 abbrev pub IsFront : PartsView → ℕ → Front → Type 0
 IsFront p count fronts.Unknown = Unit {0}
 IsFront p count fronts.Idle = count ≡ length p.ring

@@ -82,7 +82,7 @@ after_miss lines core word history =
     then after_count (counted_kinds.Miss core (line_of word) (cause_of core.0 word.0 history.happened)) history else
     history
 
--- What was waited for: the first access that a delivery lets be performed is a miss, and those behind it are secondary
+-- What was waited for: the first access that a delivery lets be performed is a miss, and those after it are secondary
 -- ones.
 abbrev pub after_waiting : ℕ → Bool → CoreId → WordAddr → History → History
 after_waiting lines true core word history = after_miss lines core word history

@@ -1,5 +1,5 @@
 -- The report: the seed, a table of the cores, and one of the lines that were asked for, which ends with the sums. Where
--- several accesses of a core may be under way, two further tables of the cores stand behind it, and at last how many moves
+-- several accesses of a core may be under way, two further tables of the cores follow it, and at last how many moves
 -- delivered.
 use Rattle.std.specs.Prelude.{ℕ, ◌/◌, ◌%◌, ◌==◌, Bool, true, false, List, [], ◌++◌, codes, decimal, if◌then◌else◌, length}
 use Rattle.std.specs.List.{flat_map, range_with_len}
@@ -17,7 +17,7 @@ use Rattle.program_run.specs.declared.usage.Usage.{Usage}
 abbrev pub names_of : List Column → List ℕ
 names_of columns = flat_map (λ column. right_in_10 (name_of column)) columns
 
--- .. behind a title
+-- .. after a title
 abbrev pub heading_of : List ℕ → List Column → List ℕ
 heading_of title columns = title ++ names_of columns ++ codes "\n"
 
@@ -25,7 +25,7 @@ heading_of title columns = title ++ names_of columns ++ codes "\n"
 abbrev pub counts_of : List Column → Counts → List ℕ
 counts_of columns counts = flat_map (λ column. right_in_10 (decimal (count_in column counts))) columns
 
--- .. behind the number of a core or a line
+-- .. after the number of a core or a line
 abbrev pub row_of : ℕ → List Column → Counts → List ℕ
 row_of number columns counts = right_in_10 (decimal number) ++ counts_of columns counts ++ codes "\n"
 
@@ -39,7 +39,7 @@ abbrev pub parallel_table : Bool → List Counts → List ℕ
 parallel_table false cores = []
 parallel_table true cores = heading_of (codes "      core") parallel_columns ++ core_rows parallel_columns cores
 
--- a mean with two places behind the point
+-- a mean with two places after the point
 abbrev pub mean_of : ℕ → ℕ → List ℕ
 mean_of sum moves =
     right_in_10 (decimal (whole_of sum moves))

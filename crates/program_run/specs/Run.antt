@@ -90,7 +90,7 @@ abbrev pub most_of : Option ℕ → ℕ
 most_of None = 1
 most_of (Some most) = most
 
--- a program that stands there may take the step: an access while fewer wait, and a step that waits once none does
+-- a program that is there may take the step: an access while fewer wait, and a step that waits once none does
 abbrev pub may_step : Option ℕ → Place → Step → Bool
 may_step most place (step_kinds.Access access) = nat_lt place.waiting (most_of most)
 may_step most place step_kinds.Settle = place.waiting == 0
@@ -104,7 +104,7 @@ may_step_at most (Some place) step = may_step most place step
 abbrev pub request_of : Place → Access → Request
 request_of place access = record { op = access.op; word = access.word; tag = place.asked % 64 }
 
--- how a program goes on that stands there
+-- how a program goes on that is there
 abbrev pub turn_of : Place → Step → Turn
 turn_of place (step_kinds.Access access) = turns.Ask (request_of place access)
 turn_of place step_kinds.Settle = turns.Settled
@@ -114,7 +114,7 @@ abbrev pub turn_by : Option ℕ → CoreId → Place → Option Step → Option 
 turn_by most core place None = None
 turn_by most core place (Some step) = if may_step most place step then Some (core, turn_of place step) else None
 
--- how a program goes on that stands there: not where its core isn't one of so many
+-- how a program goes on that is there: not where its core isn't one of so many
 abbrev pub next_by : ℕ → Option ℕ → Option CoreProgram → Option Place → Option (CoreId × Turn)
 next_by cores most None place = None
 next_by cores most (Some program) None = None
@@ -188,7 +188,7 @@ free_moves config programs run = asks_of config programs run.slices run.places +
 
 -- ---- the pace
 
--- the deliveries of the messages of a line, which stands at this place of the slice
+-- the deliveries of the messages of a line, which is at this place of the slice
 abbrev pub waiting_at : View → LineAddr → Option Local → List Move
 waiting_at v line None = []
 waiting_at v line (Some local) = map (λ channel. moves.Deliver (pick_at line channel)) (line_waiting (channels_at v local))
@@ -219,7 +219,7 @@ owed_from owed slice (state ∷ more) =
 abbrev pub moves_of : Config → Programs → List ℕ → RunState → List Move
 moves_of config programs owed run = or_else (owed_from owed 0 run.slices) (free_moves config programs run)
 
--- how many deliveries each slice makes behind an access: none, where no number is said
+-- how many deliveries each slice makes after an access: none, where no number is said
 abbrev pub pace_of : Option ℕ → ℕ
 pace_of None = 0
 pace_of (Some most) = most
@@ -233,7 +233,7 @@ abbrev pub is_access : Option (CoreId × Turn) → Bool
 is_access None = false
 is_access (Some next) = is_ask next.1
 
--- How many each slice has still to make behind a move: as many as the pace behind an access, and one less behind a
+-- How many each slice has still to make after a move: as many as the pace after an access, and one less after a
 -- delivery.
 abbrev pub owed_behind : Config → Programs → List Place → Move → List ℕ → List ℕ
 owed_behind config programs places (moves.Ask number) owed =
@@ -303,7 +303,7 @@ abbrev pub after_room : ℕ → Bool → Option PartsView → CoreId → History
 after_room lines false state core history = history
 after_room lines true state core history = after_leaving lines core (left_in state core) history
 
--- What the answer to an access comes to: one that is done at once is a hit, and the core goes on; so it does behind one
+-- What the answer to an access comes to: one that is done at once is a hit, and the core goes on; so it does after one
 -- that is pending, which may have made room; a stall is counted; and what is refused is nothing.
 abbrev pub AfterAnswer : Config → ℕ → CoreId → Request → Decision → Issued → RunState → RunState → Type 0
 AfterAnswer config number core request decision (issued_kinds.Done place reply) old new =
@@ -371,7 +371,7 @@ is_closed true (Some state) core line =
 abbrev pub program_of : List CoreProgram → CoreId → Option ℕ
 program_of programs core = position (λ program. program.core.0 == core.0) programs
 
--- An access of a core of the machine that waited was performed, as the first of its delivery or behind others: its reply
+-- An access of a core of the machine that waited was performed, as the first of its delivery or after others: its reply
 -- is handed out, and the core waits for one less.
 abbrev pub HandsOut : Bool → Config → Programs → ℕ → Bool → Entry → RunState → RunState → Type 0
 HandsOut false config programs slice is_first entry old new = new ≡ old
@@ -450,8 +450,8 @@ measured_run limited run = record run { places = measured_places limited run.pla
 abbrev pub drawn_move : ℕ → List Move → Option Move
 drawn_move word moves = slice_get moves (word % length moves)
 
--- These moves are made behind so many others, where each slice has so many deliveries still to make, one after another.
--- Each is drawn from those that may come next, by the next word of the generator that stands there; behind it, it is
+-- These moves are made after so many others, where each slice has so many deliveries still to make, one after another.
+-- Each is drawn from those that may come next, by the next word of the generator that is there; after it, it is
 -- measured what is in use, and rings are kept short.
 abbrev pub MakesAll : Config → Programs → List ℕ → ℕ → List ℕ → List Move → RunState → RunState → Type 0
 MakesAll config programs generator made owed [] old new = new ≡ old
@@ -479,7 +479,7 @@ pub record IsNewRun (config : Config) (bound : Bound) (programs : Programs) (wan
     pub first : run.places ≡ replicate (length programs.cores.items) first_place
     pub unseen : run.history ≡ no_history
 
--- a program that stands there has ended
+-- a program that is there has ended
 abbrev pub HasEnded : CoreProgram → Option Place → Type 0
 HasEnded program None = ⊥
 HasEnded program (Some place) = place.asked ≡ length program.steps.items
@@ -530,7 +530,7 @@ pub record Leads (Goes : RunState → RunState → Type 0) (old new : RunnerView
 
 -- ---- what is printed
 
--- what was measured of the program that stands there
+-- what was measured of the program that is there
 abbrev pub usage_in : Option Place → Usage
 usage_in None = no_usage
 usage_in (Some place) = place.usage

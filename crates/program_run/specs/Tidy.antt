@@ -40,7 +40,7 @@ TidiesAll [] old new = new ≡ old
 TidiesAll (slice ∷ more) old new =
     (next : List PartsView) × TidiesSlice slice (tidied_by (slice_get old slice)) old next × TidiesAll more next new
 
--- all slices behind every 32nd move, and none behind another
+-- all slices after every 32nd move, and none after another
 abbrev pub TidiesWhere : Bool → ℕ → List PartsView → List PartsView → Type 0
 TidiesWhere false slices old new = new ≡ old
 TidiesWhere true slices old new = TidiesAll (range_with_len 0 slices) old new

@@ -32,7 +32,7 @@ pub enum Column {
     Delivered,
 }
 
-/// The columns of a line in their order, and behind them what is counted of all lines only where several accesses of a
+/// The columns of a line in their order, and after them what is counted of all lines only where several accesses of a
 /// core may be under way.
 static LINE_COLUMNS: [Column; 22] = [
     Column::Requests,
@@ -59,7 +59,7 @@ static LINE_COLUMNS: [Column; 22] = [
     Column::WriteBackBusy,
 ];
 
-/// Those of a core, and behind them what is counted only where several of its accesses may be under way.
+/// Those of a core, and after them what is counted only where several of its accesses may be under way.
 static CORE_COLUMNS: [Column; 21] = [
     Column::Requests,
     Column::Hits,

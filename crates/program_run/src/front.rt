@@ -85,7 +85,7 @@ pub(crate) fn list_waiting<F: MissFile>(
     list_behind(state, *idle, moves)
 }
 
-// .. line by line behind those.
+// .. line by line after those.
 fn list_behind<F: MissFile>(
     state: &SliceState<F>,
     idle: usize,

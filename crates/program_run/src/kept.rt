@@ -221,7 +221,7 @@ impl Kept {
         }
     }
 
-    // Of the idle lines those count that stand before this one, and before the one that left last.
+    // Of the idle lines those count that are before this one, and before the one that left last.
     fn look_behind<F: MissFile>(&mut self, machine: &Machine<F>, core: CoreId, line: LineAddr)
         requires { HasCore machine.now.config core }
         ensures decided { self.new.decided ≡ self.old.decided }
@@ -238,7 +238,7 @@ impl Kept {
     }
 }
 
-/// The calls of the machine, and what holds behind them.
+/// The calls of the machine, and what holds after them.
 impl Kept {
     pub fn issue<F: MissFile>(
         &mut self,

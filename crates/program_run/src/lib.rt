@@ -5,14 +5,14 @@
 //! seed): the next access of a core, where it doesn't stall, or the next delivery of a slice, where one can be made. So
 //! the same seed runs the same way on every machine. Where a text says how many accesses may be under way, an access
 //! that would stall is asked for too, once, and so its stall is counted; then it waits until it stalls no more. Where it
-//! says how many deliveries each slice makes behind an access, these come first: each is drawn from those that the slice
+//! says how many deliveries each slice makes after an access, these come first: each is drawn from those that the slice
 //! can be asked for, also where it is blocked.
 //!
 //! - src/runner.rt: the machine, where each program stands, and what a move does (`Makes` of specs/Run.antt);
 //!   src/performed.rt: the accesses that a delivery performs.
 //! - src/moves.rt: what may come next (`moves_of`); src/kept.rt: what was decided of the cores' next accesses, as long
 //!   as it holds (specs/Kept.antt); src/front.rt: the next delivery of a slice, without a look at lines that were seen to
-//!   be idle (specs/Front.antt). src/owed.rt: the deliveries that slices have still to make behind an access.
+//!   be idle (specs/Front.antt). src/owed.rt: the deliveries that slices have still to make after an access.
 //! - src/observer.rt: what is seen of each call: what becomes of the cores' copies, and what is counted
 //!   (specs/History.antt). A miss is counted under its cause (`miss_cause`).
 //! - src/tally.rt: the counts, for each core and for each line (specs/Tally.antt).

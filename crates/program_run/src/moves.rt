@@ -49,7 +49,7 @@ pub(crate) struct Place {
     pub registers: u64,
     /// Whether the next access was asked for, and stalled.
     pub stalled: bool,
-    /// What was in use behind each move, where that is measured.
+    /// What was in use after each move, where that is measured.
     pub usage: Usage,
 }
 
@@ -86,7 +86,7 @@ pub(crate) enum Turn {
     Settled,
 }
 
-/// Lists what may come next behind what is listed: steps in the order of the programs, and then a delivery of each
+/// Lists what may come next after what is listed: steps in the order of the programs, and then a delivery of each
 /// slice.
 pub(crate) fn list_moves<F: MissFile>(
     machine: &Machine<F>,
@@ -252,7 +252,7 @@ fn next_of_program(
     Some((program.core, turn_of(place, *step)))
 }
 
-// Whether a program that stands there may take the step.
+// Whether a program that is there may take the step.
 fn may_step(most: Option<u64>, place: Place, step: Step) -> bool
     ensures { result ≡ may_step most place step }
 {

@@ -106,7 +106,7 @@ impl Observer {
         self.note(Event::Lost(core, line));
     }
 
-    /// An access that waited is performed, as the first of its delivery or behind others.
+    /// An access that waited is performed, as the first of its delivery or after others.
     pub fn perform(&mut self, entry: Entry, is_first: bool)
         ensures { (config : Config) (history : History) → HasSeen config history self.old
             → HasSeen config (after_performing config.lines is_first entry history) self.new }
@@ -123,7 +123,7 @@ impl Observer {
         self.write(core, word, op, reply);
     }
 
-    // What was waited for is counted as a miss, or as a secondary one behind the first of its delivery.
+    // What was waited for is counted as a miss, or as a secondary one after the first of its delivery.
     fn wait(&mut self, core: CoreId, word: WordAddr, is_first: bool)
         ensures { (config : Config) (history : History) → HasSeen config history self.old
             → HasSeen config (after_waiting config.lines is_first core word history) self.new }

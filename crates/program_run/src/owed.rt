@@ -1,4 +1,4 @@
-//! The deliveries that slices have still to make behind an access.
+//! The deliveries that slices have still to make after an access.
 ghost use Rattle.std.specs.Prelude.{◌≡◌, ◌≢◌, ◌++◌, ◌-◌, ◌<◌, [], IfOk, IfSome, OnOk, length, map, replicate, slice_get, slice_index_or, slice_set, true, false};
 ghost use Rattle.program_run.specs.Kept.{Knows};
 ghost use Rattle.program_run.specs.Run.{owed_from, owed_in, pace_of};
@@ -9,7 +9,7 @@ use litmus_script::Machine;
 use mshr_file::MissFile;
 use std::alloc::{AllocError, Global};
 
-/// How many deliveries each slice makes behind an access: none, where no number is said.
+/// How many deliveries each slice makes after an access: none, where no number is said.
 pub(crate) fn pace_of(pace: Option<u64>) -> u64
     ensures { result ≡ pace_of pace }
 {

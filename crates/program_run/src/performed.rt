@@ -12,7 +12,7 @@ use program_text::Programs;
 use slice_core::Entry;
 use std::alloc::AllocError;
 
-/// Lists what the slice performed behind so many entries.
+/// Lists what the slice performed after so many entries.
 pub(crate) fn list_performed<F: MissFile>(
     machine: &Machine<F>,
     slice: SliceId,
@@ -26,7 +26,7 @@ pub(crate) fn list_performed<F: MissFile>(
     Ok(())
 }
 
-// The entries behind so many.
+// The entries after so many.
 fn behind(log: &[Entry], before: usize) -> &[Entry]
     ensures { result.now ≡ drop before log.now }
 {

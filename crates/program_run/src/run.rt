@@ -38,7 +38,7 @@ pub enum Form {
 
 /// Runs the programs that a text says in the order that the seed draws, and prints the report. What is given bounds the
 /// run, and else what the text says; where neither says so, one access of a core may be under way, and slices make no
-/// deliveries behind an access of their own. Returns the exit status, which is 1 where nothing can move before the end;
+/// deliveries after an access of their own. Returns the exit status, which is 1 where nothing can move before the end;
 /// then nothing else is printed.
 pub fn run_programs<P: Progress, W: Write>(
     alloc: Global,

@@ -138,7 +138,7 @@ impl<F: MissFile> Runner<F> {
         )
     }
 
-    /// Measures what each core's accesses take up, behind a move, where their number is given.
+    /// Measures what each core's accesses take up, after a move, where their number is given.
     pub fn measure(&mut self, limited: bool)
         ensures { self.new ≡ measured_runner limited self.old }
     {
@@ -147,7 +147,7 @@ impl<F: MissFile> Runner<F> {
         }
     }
 
-    /// Keeps the rings of the slices short, behind a move that so many others came before.
+    /// Keeps the rings of the slices short, after a move that so many others came before.
     pub fn tidy(&mut self, made: u64, kept: &mut Kept)
         requires { Knows self.old.config self.old.slices kept.old }
         ensures tidied { Tidies self.old.config.slices made self.old.slices self.new.slices }
@@ -187,7 +187,7 @@ impl<F: MissFile> Runner<F> {
         list_moves(&self.machine, programs, self.places.as_slice(), kept, moves)
     }
 
-    /// Says how many deliveries each slice has still to make behind the move, before that is made.
+    /// Says how many deliveries each slice has still to make after the move, before that is made.
     pub fn owe(&self, programs: &Programs, to: Move, owed: &mut Vec<u64>)
         ensures { owed.new.items
             ≡ owed_behind self.now.config programs.now self.now.places to owed.old.items }
@@ -328,7 +328,7 @@ impl<F: MissFile> Runner<F> {
         }
     }
 
-    // What the slice performed behind so many entries is handed out.
+    // What the slice performed after so many entries is handed out.
     fn perform(
         &mut self,
         programs: &Programs,
@@ -348,7 +348,7 @@ impl<F: MissFile> Runner<F> {
         hand_out_all(self, programs, slice, kept, performed.as_slice())
     }
 
-    /// An access that waited is performed, as the first of its delivery or behind others: its reply is handed out, and
+    /// An access that waited is performed, as the first of its delivery or after others: its reply is handed out, and
     /// its core waits for one less.
     pub fn hand_out(
         &mut self,

@@ -19,7 +19,7 @@ const PERIOD: u64 = 32;
 /// A ring with more lines is long.
 const LONG: usize = 32;
 
-/// Behind every 32nd move the lines without messages leave long rings.
+/// After every 32nd move the lines without messages leave long rings.
 pub(crate) fn tidy<F: MissFile>(machine: &mut Machine<F>, made: u64, kept: &mut Kept)
     requires { Knows machine.old.config machine.old.slices.items kept.old }
     ensures config { machine.new.config ≡ machine.old.config }

@@ -2,7 +2,7 @@
 ghost use Rattle.std.specs.Prelude.{◌≡◌, ◌<◌};
 ghost use Rattle.program_run.specs.Usage.{hundredths_of, measured, no_usage, usage_of_all, usages_together, whole_of};
 
-/// How many miss registers and targets of a core were in use behind each move: the most, and the sum over the moves. A
+/// How many miss registers and targets of a core were in use after each move: the most, and the sum over the moves. A
 /// number stops at 2^64 - 1.
 #[derive(Clone, Copy)]
 pub struct Usage {
@@ -27,7 +27,7 @@ impl Usage {
         }
     }
 
-    /// So many are in use behind one more move.
+    /// So many are in use after one more move.
     pub fn measured(self, registers: u64, targets: u64) -> Self
         ensures { result ≡ measured registers targets self }
     {
@@ -72,7 +72,7 @@ pub(crate) fn whole_of(sum: u64, moves: u64) -> u64
     if moves == 0 { 0 } else { sum / moves }
 }
 
-/// The hundredths of a mean, which are cut off behind the second place.
+/// The hundredths of a mean, which are cut off after the second place.
 pub(crate) fn hundredths_of(sum: u64, moves: u64) -> u64
     ensures hundredths { result ≡ hundredths_of sum moves }
     ensures few { result < 100 }

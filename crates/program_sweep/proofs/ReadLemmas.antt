@@ -10,7 +10,7 @@ use Rattle.std.proofs.lemmas.List.{drop-set, get_or-map, map-set, map_more, set-
 use Rattle.program_sweep.specs.declared.setting.Setting.{Setting}
 use Rattle.program_sweep.specs.Read.{AreSettings, IsSetting, Says, counts_of, rows_of, spans_of, values_of}
 
--- one more setting, behind the others
+-- one more setting, after the others
 pub settings_push : (texts : List (List ℕ)) (settings : List Setting) (text : List ℕ) (setting : Setting)
     → AreSettings texts settings → IsSetting text setting
     → AreSettings (texts ++ text ∷ []) (settings ++ setting ∷ [])
@@ -67,7 +67,7 @@ values_kept now p d this below same =
     ∙ ap (λ v. set (map values_of now) p v) here
     ∙ set-get_or (map values_of now) p (values_of d)
 
--- a value, and those behind its comma
+-- a value, and those after its comma
 pub values_more : (before : List (List ℕ)) (value rest behind : List ℕ) (all : List (List ℕ))
     → before ++ slice_split (λ b. b == 44) rest ≡ all
     → slice_split (λ b. b == 44) rest ≡ value ∷ slice_split (λ b. b == 44) behind

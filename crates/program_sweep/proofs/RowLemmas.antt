@@ -5,7 +5,7 @@ use Rattle.std.specs.List.{flat_map}
 use Rattle.std.proofs.lemmas.List.{append-nil, at_drop_all, at_drop_more}
 
 module _ {X : Type 0} (f : X → List ℕ) (xs : List X) (i : ℕ) where
-  -- the piece of the next item, and then those of the items behind it
+  -- the piece of the next item, and then those of the items after it
   pub next_pieces : (x : X) (old new piece : List ℕ) → i < length xs → x ≡ get_or xs i x → piece ≡ f x
       → new ≡ old ++ piece → new ++ flat_map f (drop (i + 1) xs) ≡ old ++ flat_map f (drop i xs)
   next_pieces x old new piece below here is grows =
@@ -22,11 +22,11 @@ module _ {X : Type 0} (f : X → List ℕ) (xs : List X) (i : ℕ) where
       ∙ append_assoc old (f (get_or xs i d)) (flat_map f (drop (i + 1) xs))
       ∙ ap (λ (t : List ℕ). old ++ t) (sym (at_drop_more (flat_map f) xs i d below))
 
-  -- behind the last item there is none
+  -- after the last item there is none
   pub last_pieces : (now : List ℕ) → length xs ≤ i → now ≡ now ++ flat_map f (drop i xs)
   last_pieces now end = sym (ap (λ (t : List ℕ). now ++ t) (at_drop_all (flat_map f) xs i end) ∙ append-nil now)
 
--- pieces that are added one behind another are added together
+-- pieces that are added one after another are added together
 pub three_pieces : (old a b c one two three : List ℕ) → one ≡ old ++ a → two ≡ one ++ b → three ≡ two ++ c
     → three ≡ old ++ ((a ++ b) ++ c)
 three_pieces old a b c one two three first second third =

@@ -1,4 +1,4 @@
--- Rows that are made and printed one behind another.
+-- Rows that are made and printed one after another.
 use Rattle.std.proofs.Common.{◌≡◌, ℕ, ◌+◌, List, [], ◌∷◌, ◌++◌, Option, length, ap, arith, sym, subst, ◌∙◌, refl}
 use Rattle.std.proofs.Common.{append_assoc, length-append}
 use Rattle.std.specs.List.{concat}
@@ -11,13 +11,13 @@ use Rattle.program_sweep.specs.declared.sweep.Sweep.{Sweep}
 use Rattle.program_sweep.specs.Form.{end_of, text_of_row}
 use Rattle.program_sweep.specs.Sweep.{AreRows, HasRun, PrintsRows, PrintsSweep}
 
--- texts one behind another
+-- texts one after another
 concat-append : (xs ys : List (List ℕ)) → concat (xs ++ ys) ≡ concat xs ++ concat ys
 concat-append [] ys = refl
 concat-append (x ∷ xs) ys = ap (λ (t : List ℕ). x ++ t) (concat-append xs ys) ∙ sym (append_assoc x (concat xs) (concat ys))
 
 module _ (input : List ℕ) (sweep : Sweep) (program : List ℕ) (form : RowForm) where
-  -- rows, and those behind them
+  -- rows, and those after them
   rows-append : (first : ℕ) (texts more : List (List ℕ)) → AreRows input sweep program form first texts
       → AreRows input sweep program form (first + length texts) more → AreRows input sweep program form first (texts ++ more)
   rows-append first [] more are behind = subst (λ n. AreRows input sweep program form n more) (omega arith) behind
@@ -72,7 +72,7 @@ module _ (input : List ℕ) (sweep : Sweep) (program : List ℕ) (form : RowForm
     printed = Appends-kept a b c (concat some.texts) some.printed kept;
   }
 
-  -- all rows are printed, and what stands behind them
+  -- all rows are printed, and what follows them
   pub prints_all : (count : ℕ) (a b c : Option (List ℕ)) → PrintsRows input sweep program form 0 count a b
       → Appends b c (end_of form) → PrintsSweep input sweep program form count a c
   prints_all count a b c some foot = record {

@@ -49,7 +49,7 @@ json_of (values.Switch on) = codes "\"" ++ switch_of on ++ codes "\""
 
 -- ---- lines
 
--- a cell, behind the one before it
+-- a cell, after the one before it
 abbrev pub cell_of : Layout → Row → Cell → List ℕ
 cell_of layouts.Names row cell = codes "," ++ name_of cell
 cell_of layouts.Values row cell = codes "," ++ plain_of (value_in cell row)
@@ -64,21 +64,21 @@ heading_of row = codes "program" ++ cells_of layouts.Names row all_cells ++ code
 abbrev pub heading_if : Bool → Row → List ℕ
 heading_if first row = if first then heading_of row else []
 
--- a row of CSV, behind the heading where it is the first
+-- a row of CSV, after the heading where it is the first
 abbrev pub csv_of : List ℕ → Bool → Row → List ℕ
 csv_of program first row = heading_if first row ++ program ++ cells_of layouts.Values row all_cells ++ codes "\n"
 
--- what stands before a row of JSON and begins it
+-- what is before a row of JSON and begins it
 abbrev pub front_of : ℕ → List ℕ
 front_of number = if number == 0 then codes "[\n{\"program\":" else codes ",\n{\"program\":"
 
--- the row of this number with what stands before it; the program's name stands there as the form writes it
+-- the row of this number with what is before it; the program's name is there as the form writes it
 abbrev pub text_of_row : RowForm → List ℕ → ℕ → Row → List ℕ
 text_of_row row_forms.Csv program number row = csv_of program (number == 0) row
 text_of_row row_forms.Json program number row =
     front_of number ++ program ++ cells_of layouts.Members row all_cells ++ codes "}"
 
--- what stands behind all rows
+-- what follows all rows
 abbrev pub end_of : RowForm → List ℕ
 end_of row_forms.Csv = []
 end_of row_forms.Json = codes "\n]\n"

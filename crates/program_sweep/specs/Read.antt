@@ -18,7 +18,7 @@ use Rattle.program_text.specs.declared.programs.Limits.{Limits}
 abbrev pub values_of : Setting → List ℕ × List (List ℕ)
 values_of setting = (setting.name.now, map (λ value. value.now) setting.values.items)
 
--- The text says such a setting: its name stands before the first equals sign, and its values behind that, between commas.
+-- The text says such a setting: its name is before the first equals sign, and its values after that, between commas.
 pub record Says (text : List ℕ) (setting : List ℕ × List (List ℕ)) : Type 0 where
   pub name : setting.0 ≡ before_first (λ b. b == 61) text
   pub known : may_vary setting.0 ≡ true
@@ -94,7 +94,7 @@ abbrev pub rows_of : List ℕ → ℕ → ℕ
 rows_of [] seeds = seeds
 rows_of (count ∷ counts) seeds = rows_of counts seeds * count
 
--- how many rows with the same value of a setting stand side by side: one for each combination of those behind it
+-- how many rows with the same value of a setting stand side by side: one for each combination of those after it
 abbrev pub spans_of : List ℕ → ℕ → List ℕ
 spans_of [] seeds = []
 spans_of (count ∷ counts) seeds = rows_of counts seeds ∷ spans_of counts seeds

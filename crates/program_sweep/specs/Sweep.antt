@@ -60,7 +60,7 @@ pub record PrintsRows (input : List ℕ) (sweep : Sweep) (program : List ℕ) (f
   pub rows : AreRows input sweep program form first texts
   pub printed : Appends before after (concat texts)
 
--- all rows are written, and what stands behind them
+-- all rows are written, and what follows them
 pub record PrintsSweep (input : List ℕ) (sweep : Sweep) (program : List ℕ) (form : RowForm) (count : ℕ)
     (before after : Option (List ℕ)) : Type 0 where
   pub texts : List (List ℕ)

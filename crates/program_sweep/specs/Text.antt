@@ -41,7 +41,7 @@ ended line = line ++ codes "\n"
 abbrev pub ends_settings : Bool → List ℕ → Bool
 ends_settings is_before line = is_before && not (configures line)
 
--- the added lines, if they stand here
+-- the added lines, if they are here
 abbrev pub added_if : List ℕ → Bool → List ℕ
 added_if added here = if here then added else []
 
@@ -53,7 +53,7 @@ left_with added is_before (line ∷ more) =
     added_if added (ends_settings is_before line)
     ++ (ended line ++ left_with added (is_before && not (ends_settings is_before line)) more)
 
--- a text by its lines, with lines added behind those that configure
+-- a text by its lines, with lines added after those that configure
 abbrev pub with_settings : List ℕ → List (List ℕ) → List ℕ
 with_settings added all = left_with added true all
 

@@ -18,7 +18,7 @@ pub(crate) enum Value {
     Switch(bool),
 }
 
-/// A column of rows behind the first, which has the program's name.
+/// A column of rows after the first, which has the program's name.
 #[derive(Clone, Copy)]
 pub(crate) enum Cell {
     Cores,

@@ -41,7 +41,7 @@ enum Layout {
     Members,
 }
 
-/// Adds the row of this number, with what stands before it. The program's name stands there as the form writes it.
+/// Adds the row of this number, with what is before it. The program's name is there as the form writes it.
 pub(crate) fn push_row(
     out: &mut Vec<u8>,
     form: RowForm,
@@ -77,7 +77,7 @@ fn push(out: &mut Vec<u8>, bytes: &[u8]) -> Result<(), AllocError>
     out.extend_from_slice(bytes)
 }
 
-/// What stands behind all rows.
+/// What follows all rows.
 pub(crate) fn end_of(form: RowForm) -> &'static [u8]
     ensures { result.now ≡ end_of form }
 {

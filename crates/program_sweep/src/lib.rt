@@ -2,7 +2,7 @@
 //!
 //! A [`Sweep`] says which settings vary, over which values, and which seeds each combination is run with; the last
 //! setting varies fastest, and the seeds faster still. [`run_sweep`] runs them side by side on all processors, and
-//! prints the rows in their order, as CSV behind a heading or as one value of JSON.
+//! prints the rows in their order, as CSV after a heading or as one value of JSON.
 //!
 //! - src/setting.rt and src/seeds.rt: what varies. src/place.rt: which value and which seed a row has.
 //! - src/text.rt: a text with other settings (`with_settings` of specs/Text.antt).

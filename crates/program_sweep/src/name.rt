@@ -26,7 +26,7 @@ static NAMES: [(&[u8], bool); 13] = [
 pub(crate) enum Bound {
     /// How many accesses of a core may be under way.
     Outstanding,
-    /// How many deliveries each slice makes behind an access.
+    /// How many deliveries each slice makes after an access.
     Pace,
 }
 

@@ -3,7 +3,7 @@
 use super::form::RowForm;
 use std::alloc::{AllocError, Global};
 
-/// A text as it stands in rows of this form: between quotes in JSON, and in CSV where it would not be one cell else.
+/// A text as it is in rows of this form: between quotes in JSON, and in CSV where it would not be one cell else.
 pub fn program_name(alloc: Global, form: RowForm, text: &str) -> Result<Vec<u8>, AllocError> {
     let bytes = text.as_bytes();
     match form {

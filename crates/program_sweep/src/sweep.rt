@@ -131,7 +131,7 @@ fn read_settings<'a>(
 }
 
 /// Runs the text once for each row, side by side, and writes the rows, those that are made together as soon as they are.
-/// The program's name stands in each as the form writes it. A text that can't be run with some settings ends the rows
+/// The program's name is in each as the form writes it. A text that can't be run with some settings ends the rows
 /// before them.
 pub fn run_sweep<R: Threads + Sync, P: Progress, W: Write>(
     alloc: Global,
@@ -442,7 +442,7 @@ fn in_input(input: &[u8], added: usize, fault: TextFault) -> TextFault {
     }
 }
 
-// How many lines stand before the first that doesn't configure.
+// How many lines are before the first that doesn't configure.
 fn lines_that_configure(input: &[u8]) -> usize {
     let mut count: usize = 0;
     for line in Lines::of(input) {

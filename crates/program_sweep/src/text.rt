@@ -1,4 +1,4 @@
-//! A text of programs with other settings: their lines stand behind the text's own, and of lines of one name the last
+//! A text of programs with other settings: their lines follow the text's own, and of lines of one name the last
 //! counts.
 ghost use Rattle.std.specs.Prelude.{◌≡◌, ◌++◌, ◌&&◌, IfOk, OnOk, not};
 ghost use Rattle.std.specs.Str.Lines.{lines};

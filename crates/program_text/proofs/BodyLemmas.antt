@@ -28,7 +28,7 @@ spread_more op first word old now order is =
     rw (is, count, more)
     (append_assoc old (map (access_to op) (range_with_len first (word - first))) (access_to op word ∷ []))
 
--- a step more of those that stand there already
+-- a step more of those that are there already
 pub again_more : (old now : List Step) (start place : ℕ) (step : Step) → start ≤ place → place < length old
     → now ≡ old ++ slice_range old start place → step ≡ get_or now place step
     → now ++ step ∷ [] ≡ old ++ slice_range old start (place + 1)
@@ -108,7 +108,7 @@ rounds_all old now start n all count is =
     ∙ append_assoc (take start old) body (times n body)
     ∙ ap (λ k. written_out start k old) (sym as_suc)
 
--- nothing stands behind the start
+-- nothing follows the start
 pub written_nothing : (start n : ℕ) (old : List Step) → length old ≤ start → old ≡ written_out start n old
 written_nothing start n old past =
     sym (ap₂ (λ (xs ys : List Step). xs ++ ys) (take_all start old past)

@@ -27,7 +27,7 @@ use Rattle.program_text.specs.Reading.{IsPlaceFault, IsRead, IsReading, said_fir
 use Rattle.program_text.specs.Text.{Program, Said, said_line, said_nothing}
 use Rattle.program_text.proofs.LineLemmas.{no_empty_line, only_setting}
 
--- what statements say, and what others say behind them, both say together
+-- what statements say, and what others say after them, both say together
 says_append : (start said whole : Said) (done left : List Statement)
     → Says start done said → Says said left whole → Says start (done ++ left) whole
 unfolding Says
@@ -139,7 +139,7 @@ line_fault all left said number words fault reading checked begins none form =
     faulty all left said number words fault reading (inr checked)
     (inr (inr (record { begins = begins; none = none; form = form })))
 
--- what is wrong with a setting behind the first program
+-- what is wrong with a setting after the first program
 pub late_fault : (said : Said) (words : List (List ℕ)) (fault : LineFault) → BeginsAsSetting words
     → is_first said ≡ false → IsLateFault words fault → HasFault said words fault
 unfolding WritesSetting fault_of first_so

@@ -24,7 +24,7 @@ keywords_by_name =
     ∷ (codes "load", keywords.Load) ∷ (codes "store", keywords.Store) ∷ (codes "add", keywords.Add) ∷ (codes "cas", keywords.Cas)
     ∷ (codes "settle", keywords.Settle) ∷ (codes "repeat", keywords.Repeat) ∷ (codes "end", keywords.End) ∷ []
 
--- how many words stand behind it
+-- how many words follow it
 abbrev pub words_behind : Keyword → ℕ
 words_behind keywords.Outstanding = 1
 words_behind keywords.Pace = 1
@@ -42,7 +42,7 @@ pub record IsCountFault (wanted : ℕ) (words : List (List ℕ)) (fault : LineFa
   pub as_many : length words ≡ wanted → fault ≡ line_faults.BadNumber
   pub other : length words ≢ wanted → fault ≡ line_faults.NotACommand
 
--- .. behind this word
+-- .. after this word
 abbrev pub IsKeywordFault : Option Keyword → List (List ℕ) → LineFault → Type 0
 IsKeywordFault None words fault = fault ≡ line_faults.NotACommand
 IsKeywordFault (Some keyword) words fault = IsCountFault (words_behind keyword) words fault

@@ -23,12 +23,12 @@ pub data Line : Type 0 where
   repeat : ℕ → Line
   end : Line
 
--- the words write a range, and behind it the parts
+-- the words write a range, and after it the parts
 unfoldable pub WritesRange : List (List ℕ) → ℕ → ℕ → List Part → Type 0
 WritesRange [] first last parts = ⊥
 WritesRange (range ∷ words) first last parts = IsRange range first last × Writes words parts
 
--- .. behind this name
+-- .. after this name
 abbrev pub WritesAccess : List ℕ → List (List ℕ) → ℕ → ℕ → List Part → Type 0
 WritesAccess name [] first last parts = ⊥
 WritesAccess name (word ∷ words) first last parts = (word ≡ name) × WritesRange words first last parts

@@ -9,12 +9,12 @@ use super::range::{Range, number_of};
 use address_map::Op;
 use litmus_text::LineFault;
 
-/// What a line says behind those that configure. Cores and words are numbers that the machine may lack.
+/// What a line says after those that configure. Cores and words are numbers that the machine may lack.
 #[derive(Clone, Copy)]
 pub(super) enum Line {
     /// How many accesses of a core may be under way.
     Outstanding(u64),
-    /// How many deliveries each slice makes behind an access.
+    /// How many deliveries each slice makes after an access.
     Pace(u64),
     Core(u64),
     /// An access to each word of the range, ascending.

@@ -13,7 +13,7 @@ pub const MOST_DEPTH: usize = 8;
 /// The most accesses of a core that may be under way: as many as there are tags.
 pub const MOST_OUTSTANDING: u64 = 64;
 
-/// The most deliveries that each slice makes behind an access.
+/// The most deliveries that each slice makes after an access.
 pub const MOST_PACE: u64 = 64;
 
 /// What a core asks of one word.
@@ -43,7 +43,7 @@ pub struct CoreProgram {
 pub struct Limits {
     /// How many accesses of a core may be under way.
     pub outstanding: Option<u64>,
-    /// How many deliveries each slice makes behind an access.
+    /// How many deliveries each slice makes after an access.
     pub pace: Option<u64>,
 }
 

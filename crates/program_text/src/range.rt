@@ -69,7 +69,7 @@ fn parse_span(text: &[u8], at: usize) -> Result<Range, LineFault>
     }
 }
 
-/// What stands behind the dot at this place and another.
+/// What follows the dot at this place and another.
 fn behind_dots(text: &[u8], at: usize) -> Option<&[u8]>
     requires { at < length text.now }
     ensures some { IfSome result

@@ -162,7 +162,7 @@ impl Reader {
         }
     }
 
-    /// Reads a line behind the first that doesn't configure.
+    /// Reads a line after the first that doesn't configure.
     fn read_next(&mut self, alloc: Global, statement: &Statement<'_>) -> Result<(), TextFault>
         requires counted { IsSoundReader self.old }
         requires begun { is_first (said_by self.old) ≡ false }

@@ -1,4 +1,4 @@
--- One line and the cores that share it: what stands in each core's cache, in its channels and in the directory.
+-- One line and the cores that share it: what is in each core's cache, in its channels and in the directory.
 use Rattle.std.specs.Prelude.{ℕ, ◌==◌, Bool, Option}
 use Rattle.address_map.specs.declared.address.CoreId.{CoreId}
 use Rattle.cache_table.specs.declared.state.CopyState.{CopyState}

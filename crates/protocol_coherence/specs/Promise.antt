@@ -70,7 +70,7 @@ has_room_for_inv look = not look.inv && is_no_forward look.forward && not look.p
 abbrev pub has_room_for_forward : Look → Bool
 has_room_for_forward look = is_no_forward look.forward && not look.put_ack
 
--- Where a Put-Ack is put, at most one message stands before it, and no Put-Ack.
+-- Where a Put-Ack is put, at most one message is before it, and no Put-Ack.
 abbrev pub has_room_for_put_ack : Look → Bool
 has_room_for_put_ack look = not look.put_ack && not (look.inv && not (is_no_forward look.forward))
 

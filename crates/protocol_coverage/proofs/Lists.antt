@@ -38,7 +38,7 @@ here_is [] k x d is = search rules
 here_is (y ∷ ys) zero x d is = search rules
 here_is (y ∷ ys) (suc k) x d is = here_is ys k x d is
 
--- nothing stands behind the last
+-- nothing follows the last
 pub none_behind : {X : Type 0} (xs : List X) (k : ℕ) (x : X) → slice_get xs k ≡ Some x → k < length xs
 none_behind [] k x is = search rules
 none_behind (y ∷ ys) zero x is = omega arith

@@ -22,7 +22,7 @@ names_at names number d is = is.named ∙ ap names_of (sym (here_is CELLS number
 -- ---- the words of a line
 
 module _ (table state event outcome times : List ℕ) where
-  -- names of a cell, and a number behind them
+  -- names of a cell, and a number after them
   pub count_of_names : (number : ℕ) → IsCell (table ∷ state ∷ event ∷ outcome ∷ []) number → IsNumber times
       → IsCount (table ∷ state ∷ event ∷ outcome ∷ times ∷ []) number (digits_value 10 times)
   count_of_names number is spelt = record {
@@ -51,7 +51,7 @@ module _ (table state event outcome times : List ℕ) where
       let d : outcome ≡ name_of_outcome said.cell.outcome = w.1.1.1.0 in
       none number (record { cell = said.cell; is = said.is; named = cc })
 
-  -- .. or no number behind them
+  -- .. or no number after them
   pub no_number : ¬ IsNumber times → IsNoCount (table ∷ state ∷ event ∷ outcome ∷ times ∷ [])
   no_number none number count said = none said.written.1.1.1.1.0
 

@@ -52,7 +52,7 @@ impl Coverage {
         self.read_lines(statements)
     }
 
-    /// Adds the counts of the lines behind the first.
+    /// Adds the counts of the lines after the first.
     fn read_lines(&mut self, mut statements: Statements<'_>) -> Result<(), Unread>
         ensures added { OnOk result
             (AddsLines statements.entry self.old self.new) }

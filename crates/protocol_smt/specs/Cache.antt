@@ -85,7 +85,7 @@ never_of state case =
     ++ (codes ": -\n(push 1)\n(assert (invariant before))\n(assert (cache-event "
     ++ (at_of state case ++ codes "))\n(check-sat)\n(pop 1)\n\n")))
 
--- the query of a state and an event, by their row: whether the invariant holds before it and not behind it
+-- the query of a state and an event, by their row: whether the invariant holds before it and not after it
 abbrev pub query_of : CopyState → CacheCase → Row → List ℕ
 query_of state case (rows.Go next sent) =
     codes "; " ++ (cell_name state case ++ (codes ": "

@@ -117,7 +117,7 @@ step_of does =
     sends_name does.sends ++ (codes " " ++ (truth_name does.writes_home ++ (codes " D_" ++ (name_of does.state
     ++ (codes " " ++ (owns_name does.owns ++ (codes " " ++ shares_name does.shares)))))))
 
--- the query of an entry and an event, by their row: whether the invariant holds before it and not behind it, or, of a
+-- the query of an entry and an event, by their row: whether the invariant holds before it and not after it, or, of a
 -- cell without a row, whether the event can come
 abbrev pub query_of : Entry → DirCase → DirRule → List ℕ
 query_of entry case (rules.Go does) =

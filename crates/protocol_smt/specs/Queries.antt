@@ -1,4 +1,4 @@
--- The queries as a whole: what no row decides as it stands in the code, and a query for each row of both tables.
+-- The queries as a whole: what no row decides as it is in the code, and a query for each row of both tables.
 use Rattle.std.specs.Prelude.{ℕ, Bool, List, [], ◌++◌, codes, if◌then◌else◌}
 use Rattle.protocol_smt.specs.Cache.{queries_of as cache_queries}
 use Rattle.protocol_smt.specs.Directory.{entry_terms, queries_of as directory_queries}
@@ -10,7 +10,7 @@ use Rattle.protocol_smt.specs.declared.fixed.whole.TheConstants.{BEGINNING, COVE
 abbrev pub word_of : Bool → List ℕ
 word_of truth = if truth then codes "true" else codes "false"
 
--- what stands before the queries, with the setting of the exclusive state amid what is fixed
+-- what is before the queries, with the setting of the exclusive state amid what is fixed
 abbrev pub head_of : Bool → List ℕ
 head_of exclusive =
     INTRODUCTION.now ++ (codes "(define-fun exclusive () Bool " ++ (word_of exclusive ++ (codes ")\n\n"

@@ -25,7 +25,7 @@ pub fn write_queries<W: Write>(exclusive: bool, out: &mut W) -> fmt::Result
     write!(out, "{COVERAGE}{NEVER}{end}")
 }
 
-/// Writes what stands before the queries: what a line is, what a row is, and the invariant.
+/// Writes what is before the queries: what a line is, what a row is, and the invariant.
 fn write_head<W: Write>(exclusive: bool, out: &mut W) -> fmt::Result
     ensures { OnOk result (WritesInCalls W.write_str_gives out.old (head_of exclusive) out.new) }
 {

@@ -6,7 +6,7 @@ use Rattle.std.proofs.Output.{writes_in_calls_append, writes_in_calls_nil}
 use Rattle.std.specs.Fmt.{WritesInCalls}
 
 module _ {W X : Type 0} (took : W → List ℕ → W → Type 0) (all : List X → List ℕ) (xs : List X) (i : ℕ) where
-  -- the piece of the next item, and then those of the items behind it
+  -- the piece of the next item, and then those of the items after it
   pub next_piece : (piece : List ℕ) (d : X) → i < length xs
       → all (get_or xs i d ∷ drop (i + 1) xs) ≡ piece ++ all (drop (i + 1) xs)
       → (old mid new : W) → WritesInCalls took old piece mid → WritesInCalls took mid (all (drop (i + 1) xs)) new
@@ -23,7 +23,7 @@ module _ {W X : Type 0} (took : W → List ℕ → W → Type 0) (all : List X �
   next_item x piece is below step =
       next_piece piece x below (ap (λ (y : X). all (y ∷ drop (i + 1) xs)) (sym is) ∙ step)
 
-  -- behind the last item there is none
+  -- after the last item there is none
   pub last_piece : length xs ≤ i → all [] ≡ [] → (now : W) → WritesInCalls took now (all (drop i xs)) now
   last_piece end none now =
       subst (λ text. WritesInCalls took now text now) (sym (at_drop_all all xs i end ∙ none))

@@ -19,7 +19,7 @@ use Rattle.cache_table.specs.declared.row.Row.TheVariants as rows
 
 -- ---- cells
 
--- what is sent, each behind the one before
+-- what is sent, each after the one before
 abbrev pub text_of_sends : CacheSends → List ℕ
 text_of_sends cache_sends.Nothing = codes ""
 text_of_sends cache_sends.GetS = codes "GetS; "

@@ -32,7 +32,7 @@ x = record { 0 = 2 }
 abbrev pub letter_of : ℕ → List ℕ
 letter_of core = if core == 0 then codes "o" else if core == 1 then codes "r" else codes "x"
 
--- these cores, each behind a comma
+-- these cores, each after a comma
 abbrev pub further_cores : List ℕ → List ℕ
 further_cores cores = flat_map (λ core. codes ", " ++ letter_of core) cores
 

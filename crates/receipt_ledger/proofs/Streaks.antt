@@ -19,7 +19,7 @@ use Rattle.slice_log.proofs.Pushes.{slice_get-push}
 
 -- ---- the list of what was asked
 
--- what stands under a number
+-- what is under a number
 abbrev told : List Streak → List Receipt → ℕ → Ask
 told streaks receipts seq = told_in receipts (streak_in no_streak streaks seq) seq
 
@@ -67,7 +67,7 @@ one-more streaks later accepted receipts given ask same is =
 
 -- ---- the streak of a request
 
--- The streak at a place is that of a request where those up to it begin no later, and those behind it later.
+-- The streak at a place is that of a request where those up to it begin no later, and those after it later.
 pub streak-found : (streak : Streak) (streaks : List Streak) (seq place : ℕ) (d : Streak) → place < length streaks
     → ((k : ℕ) → k ≤ place → (get_or streaks k d).first ≤ seq)
     → ((k : ℕ) → place < k → k < length streaks → seq < (get_or streaks k d).first)
@@ -88,7 +88,7 @@ later-streak streak [] x seq later = rw (lt-ltb seq x.first later) refl
 later-streak streak (y ∷ ys) x seq later =
     ap (λ (s : Streak). if nat_lt seq y.first then streak else s) (later-streak y ys x seq later)
 
--- One that begins no later behind all that do is the request's.
+-- One that begins no later after all that do is the request's.
 last-streak : (streak : Streak) (streaks : List Streak) (x : Streak) (seq : ℕ)
     → ((k : ℕ) (s : Streak) → slice_get streaks k ≡ Some s → s.first ≤ seq) → x.first ≤ seq
     → streak_in streak (streaks ++ x ∷ []) seq ≡ x

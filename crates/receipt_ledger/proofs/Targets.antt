@@ -14,7 +14,7 @@ use Rattle.receipt_ledger.proofs.Picked.{count-contained, one-contained, one_if,
 use Rattle.target_list.specs.declared.target.Target.{Target}
 
 module _ (p : Target → Bool) where
-  -- how many of a register and of those behind it pass
+  -- how many of a register and of those after it pass
   count_of-cons : (register : Register) (misses : List Register)
       → count_of p (register ∷ misses) ≡ count_by p register.targets + count_of p misses
   count_of-cons register misses = sum_by-cons {X = Register} (λ r. count_by p r.targets) register misses

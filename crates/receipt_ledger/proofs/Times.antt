@@ -1,4 +1,4 @@
--- How often numbers stand in a list: where each of so many stands at least once in a list that is no longer, each
+-- How often numbers are in a list: where each of so many stands at least once in a list that is no longer, each
 -- stands just once, and no other does.
 use Rattle.std.proofs.Common.{◌≡◌, ℕ, zero, suc, ◌+◌, ◌<◌, ◌≤◌, Bool, true, false, if◌then◌else◌, List, [], ◌∷◌, length}
 use Rattle.std.proofs.Common.{Some, refl, sym, ap, subst, inl, inr, arith, eq-eqb, lt-ltb}

@@ -54,7 +54,7 @@ streak_in streak (next ∷ streaks) seq = if nat_lt seq next.first then streak e
 abbrev pub place_in : Streak → ℕ → ℕ
 place_in streak seq = streak.receipts + (seq - streak.first - 1)
 
--- the request whose receipt stands at this place, asked when the one before it told how much was seen
+-- the request whose receipt is at this place, asked when the one before it told how much was seen
 abbrev pub told_at : List Receipt → ℕ → Ask
 told_at receipts place = record {
   request = request_of (receipt_at receipts place).entry;
@@ -65,7 +65,7 @@ told_at receipts place = record {
 abbrev pub told_in : List Receipt → Streak → ℕ → Ask
 told_in receipts streak seq = if nat_lt streak.first seq then told_at receipts (place_in streak seq) else streak.ask
 
--- At the place stands a receipt behind another one, whose number isn't the last of all.
+-- At the place stands a receipt after another one, whose number isn't the last of all.
 pub record IsTelling (receipts : List Receipt) (place : ℕ) : Type 0 where
   pub behind : 0 < place
   pub within : place < length receipts

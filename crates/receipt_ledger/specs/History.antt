@@ -33,7 +33,7 @@ IsHeld ports number e =
 abbrev pub AreHeld : List PortView → List Entry → Type 0
 AreHeld ports log = (number : ℕ) (e : Entry) → slice_get log number ≡ Some e → IsHeld ports number e
 
--- how often the number stands in the list
+-- how often the number is in the list
 abbrev pub times : ℕ → List ℕ → ℕ
 times n [] = 0
 times n (x ∷ xs) = (if x == n then 1 else 0) + times n xs

@@ -11,13 +11,13 @@ use slice_log::Entry;
 use std::alloc::{AllocError, Global};
 use std::marker::Model;
 
-/// Requests in a row: the first in full, and behind it those that were each done at once, with nothing seen in between.
+/// Requests in a row: the first in full, and after it those that were each done at once, with nothing seen in between.
 #[derive(Clone, Copy)]
 pub(crate) struct Streak {
     ask: Ask,
     /// The first one's number.
     first: usize,
-    /// Where the receipt of the one behind it stands, if there is one.
+    /// Where the receipt of the one after it stands, if there is one.
     receipts: usize,
 }
 

@@ -16,7 +16,7 @@ use Rattle.slice_log.specs.Log.{added_to, added_by}
 use Rattle.receipt_shares.specs.Sums.{zeros, only, sum_at, sums}
 use Rattle.receipt_shares.proofs.Sums.{sums_same, at_zeros, at_only, at_sums}
 
--- what one entry adds to the counter at a place, by whether its word stands there
+-- what one entry adds to the counter at a place, by whether its word is there
 added_at : (words : List WordAddr) (e : Entry) (k amount : ℕ)
     → (k < length words → (w : WordAddr) → get_or words k w ≡ w → added_to w.0 e ≡ amount)
     → (length words ≤ k → amount ≡ 0)
@@ -68,7 +68,7 @@ adds_nowhere words e none =
     other : (w : WordAddr) → eqb w.0 e.word.0 ≡ false → added_to w.0 e ≡ 0
     other w differs = rw (ne_eqb e.word.0 w.0 (λ same. false≢true (sym differs ∙ eq-eqb w.0 e.word.0 (sym same)))) refl
 
--- what an entry adds to the word at one place, where its own word stands at another or there
+-- what an entry adds to the word at one place, where its own word is at another or there
 added_there : (w : WordAddr) (e : Entry) (k place : ℕ)
     → (k ≡ place → w.0 ≡ e.word.0) → ((k ≡ place → ⊥) → w.0 ≡ e.word.0 → ⊥)
     → added_to w.0 e ≡ (if k == place then added_by e.op else 0)
@@ -89,7 +89,7 @@ apart_by_word words k place d ascending inside found apart same =
     (λ above. absurd (omega (arith, ascending place k d above inside, same))) strict)
     (cases_order k place)
 
--- where the word stands at one place alone, its counter gets what the entry adds, and no other
+-- where the word is at one place alone, its counter gets what the entry adds, and no other
 pub adds_there : (words : List WordAddr) (e : Entry) (place : ℕ) → IsAscendingBy (λ word. word.0) words
     → position (λ word. word.0 == e.word.0) words ≡ Some place → sums words (e ∷ []) ≡ only place (added_by e.op)
 adds_there words e place ascending found =

@@ -89,7 +89,7 @@ abbrev pub outcome_of_decision : Decision → Option Outcome
 outcome_of_decision (decisions.Access local access) = outcome_of_access access
 outcome_of_decision (decisions.Refuse refused) = None
 
--- what became of an eviction, behind which the copy is in this state
+-- what became of an eviction, after which the copy is in this state
 abbrev pub outcome_of_eviction : Evicted → CopyState → Option Outcome
 outcome_of_eviction evictions.Evicting state = Some (outcomes.To (table_states.Cache state))
 outcome_of_eviction evictions.NotHeld state = Some outcomes.NotHeld

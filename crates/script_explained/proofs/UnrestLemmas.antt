@@ -16,7 +16,7 @@ module _ {X : Type 0} (from : ℕ → X) (holds : ℕ → Bool) where
       → slice_get (map from (filter holds (range_with_len i (end - i)))) 0 ≡ Some (from i)
   here i end within is = let e : end - i ≡ suc (end - (i + 1)) = omega arith in rw e (rw is refl)
 
-  -- behind the end there is none
+  -- after the end there is none
   pub nothing_left : (i end : ℕ) → end ≤ i → slice_get (map from (filter holds (range_with_len i (end - i)))) 0 ≡ None
   nothing_left i end behind = let e : end - i ≡ zero = omega arith in rw e refl
 

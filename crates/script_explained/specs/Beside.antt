@@ -1,4 +1,4 @@
--- A run whose answers stand beside the commands.
+-- A run whose answers are beside the commands.
 use Rattle.std.specs.Prelude.{ℕ, Bool, true, false, List, [], Some}
 use Rattle.std.specs.Io.KnownBytes.{Appends}
 use Rattle.std.specs.Str.Lines.{lines}

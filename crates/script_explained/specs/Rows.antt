@@ -2,7 +2,7 @@
 use Rattle.std.specs.Prelude.{ℕ, List, [], ◌∷◌, ◌++◌, codes, drop, length, replicate}
 use Rattle.std.specs.List.{flat_map}
 
--- the blanks that fill up the column behind a command: none where it is as wide or wider
+-- the blanks that fill up the column after a command: none where it is as wide or wider
 abbrev pub blanks_behind : List ℕ → List ℕ
 blanks_behind command = drop (length command) (replicate 38 32)
 

@@ -80,7 +80,7 @@ IsShown false config (commands.Pump calls) old new text = (new ≡ old) × (text
 IsShown false config command old new text = ⊥
 
 -- The slices of a machine made the step: one of them answered the command's call, or something was shown. What a pump
--- left is said behind its deliveries, which are steps of their own.
+-- left is said after its deliveries, which are steps of their own.
 abbrev pub IsStep : Config → Step → List PartsView → List PartsView → Type 0
 IsStep config (steps.Issue access) old new =
     let slice = (line_of_word access.decided.request.word).0 % config.slices in
@@ -121,11 +121,11 @@ pub record MakesNext (slice : ℕ) (answer : Delivery Pick) (made : Option Deliv
 
 -- ---- steps that are written
 
--- what is written of the step of a command on a line of this text, where the slices are these behind it
+-- what is written of the step of a command on a line of this text, where the slices are these after it
 abbrev pub Writing : Type 1
 Writing = Config → List PartsView → List ℕ → Step → Option (List ℕ) → Option (List ℕ) → Type 0
 
--- what is written of a delivery that a pump made, where the slices are these behind it
+-- what is written of a delivery that a pump made, where the slices are these after it
 abbrev pub WritingNext : Type 1
 WritingNext = Config → List PartsView → DeliveryStep → Option (List ℕ) → Option (List ℕ) → Type 0
 
@@ -153,7 +153,7 @@ pub record IsStepped (writes : Writing) (config : Config) (old : List PartsView)
   pub makes : MakesStep config command old new step
   pub written : writes config new line step before after
 
--- a pump's deliveries are steps that are written, and behind them what is left
+-- a pump's deliveries are steps that are written, and after them what is left
 pub record ArePumped (writes : Writing) (writes_next : WritingNext) (config : Config) (old : List PartsView)
     (line : List ℕ) (calls : ℕ) (before after : Option (List ℕ)) (new : List PartsView) : Type 0 where
   pub pumped : Pumped

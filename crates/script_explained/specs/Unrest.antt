@@ -35,7 +35,7 @@ text_of_unrest (unrests.Message pick) =
 text_of_unrest (unrests.Reply core tag) =
     codes "core " ++ (decimal core.0 ++ (codes "'s reply of tag " ++ (decimal tag ++ codes " isn't handed out")))
 
--- behind a value nothing is said
+-- after a value nothing is said
 abbrev pub told_of_word : Option ℕ → Option Unrest → List ℕ
 told_of_word None (Some unrest) = codes "   " ++ text_of_unrest unrest
 told_of_word shown unrest = []

@@ -15,7 +15,7 @@ use mshr_file::MissFile;
 use std::alloc::Global;
 use std::io::Write;
 
-/// Runs a script, and writes each answer beside its command's own line; with `explain`, what happened behind it.
+/// Runs a script, and writes each answer beside its command's own line; with `explain`, what happened after it.
 /// Comments, lines without words and those that configure the machine aren't written.
 pub fn run_beside<W: Write>(
     alloc: Global,

@@ -1,4 +1,4 @@
-//! What writes each answer with what happened behind it.
+//! What writes each answer with what happened after it.
 ghost use Rattle.std.specs.Prelude.{◌≡◌, ◌++◌, ◌/◌, ◌%◌, IfErr, OnOk, codes};
 ghost use Rattle.std.specs.Io.KnownBytes.{Appends};
 ghost use Rattle.address_map.specs.Place.{line_of as line_of_word};
@@ -26,7 +26,7 @@ use stats_report::write_text;
 use std::alloc::Global;
 use std::io::Write;
 
-/// Writes each answer, and behind it what was decided and done.
+/// Writes each answer, and after it what was decided and done.
 #[derive(Clone, Copy)]
 pub struct Explaining {
     pub alloc: Global,

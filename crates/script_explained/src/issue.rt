@@ -69,7 +69,7 @@ fn decided<F: MissFile>(
     }
 }
 
-/// Writes what became of an access and why, with its copies as the slice has them behind it.
+/// Writes what became of an access and why, with its copies as the slice has them after it.
 pub(crate) fn write_access<F: MissFile, W: Write>(
     alloc: Global,
     state: &SliceState<F>,
@@ -145,7 +145,7 @@ pub(crate) fn evict<F: MissFile>(
     }
 }
 
-/// Writes what became of an eviction and why, with the copies in its way as the slice has them behind it.
+/// Writes what became of an eviction and why, with the copies in its way as the slice has them after it.
 pub(crate) fn write_evicted<F: MissFile, W: Write>(
     alloc: Global,
     state: &SliceState<F>,

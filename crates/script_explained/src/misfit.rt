@@ -52,7 +52,7 @@ impl Judge {
         }
     }
 
-    /// What stands behind the word, where it can stand there itself.
+    /// What follows the word, where it can stand there itself.
     fn behind(&self, slot: Slot, rest: &'static [Slot], word: &[u8]) -> Option<&'static [Slot]> {
         match slot {
             Slot::Name
@@ -103,7 +103,7 @@ enum Wanted {
     Earlier,
 }
 
-/// The first word of a line that fits nothing, and what could stand there.
+/// The first word of a line that fits nothing, and what could be there.
 #[derive(Clone, Copy)]
 pub struct Misfit<'a> {
     found: Option<&'a [u8]>,

@@ -18,12 +18,12 @@ pub(crate) enum Named {
     Nothing,
     /// The copy that has just left for another line.
     Victim,
-    /// Those that stand there.
+    /// Those that are there.
     Lines(CoreLines),
 }
 
 impl Named {
-    /// Those that stand in the way of an access to a line, or its victim.
+    /// Those that are in the way of an access to a line, or its victim.
     pub(crate) const fn of(line: LineAddr, decision: Decision) -> Self
         ensures { result ≡ named_by line decision }
     {

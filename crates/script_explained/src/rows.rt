@@ -27,7 +27,7 @@ pub(crate) fn write_beside<W: Write>(command: &[u8], answer: &[u8], out: &mut W)
     }
 }
 
-/// Writes the lines of an answer behind its first, which have no command beside them.
+/// Writes the lines of an answer after its first, which have no command beside them.
 fn write_further<W: Write>(lines: Lines<'_>, out: &mut W) -> Result<(), Cut>
     ensures { OnOk result (Appends (W.contents out.old) (W.contents out.new) (flat_map (row_of []) lines.entry)) }
 {
@@ -47,7 +47,7 @@ fn write_row<W: Write>(command: &[u8], line: &[u8], out: &mut W) -> Result<(), C
     write_text(out, b"\n")
 }
 
-/// The blanks that fill up the column behind a command.
+/// The blanks that fill up the column after a command.
 fn blanks_behind(command: &[u8]) -> &'static [u8]
     ensures { result.now ≡ blanks_behind command.now }
 {

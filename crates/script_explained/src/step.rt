@@ -16,7 +16,7 @@ pub enum Step {
     Deliver(DeliveryStep),
     Hand(HandStep),
     Word(WordStep),
-    /// What a pump left, behind its deliveries, each of which is a step of its own.
+    /// What a pump left, after its deliveries, each of which is a step of its own.
     Pump { calls: u64, pumped: Pumped },
     /// What a command shows of the machine, which is as it was.
     Show { command: Command, text: Vec<u8> },

@@ -22,7 +22,7 @@ pub trait StepWriter: Copy {
     /// What it writes of a delivery that a pump made.
     ghost writes_next: { Self → WritingNext };
 
-    /// Writes the step of a statement's command, where the machine is this behind it.
+    /// Writes the step of a statement's command, where the machine is this after it.
     fn write<F: MissFile, W: Write>(
         &self,
         machine: &Machine<F>,
@@ -35,7 +35,7 @@ pub trait StepWriter: Copy {
             statement.now.line.now step.now (W.contents out.old) (W.contents out.new)) }
         ensures fault { IfErr result IsOfRun };
 
-    /// Writes a delivery that the pump of this line of the text made, where the machine is this behind it.
+    /// Writes a delivery that the pump of this line of the text made, where the machine is this after it.
     fn write_next<F: MissFile, W: Write>(
         &self,
         machine: &Machine<F>,

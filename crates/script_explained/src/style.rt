@@ -14,7 +14,7 @@ use mshr_file::MissFile;
 use std::alloc::Global;
 use std::io::Write;
 
-/// Runs a script, and writes behind each answer what happened; with echo, the command's own line before it.
+/// Runs a script, and writes after each answer what happened; with echo, the command's own line before it.
 pub fn run_explained<W: Write>(
     alloc: Global,
     input: &[u8],
@@ -36,7 +36,7 @@ pub fn run_explained<W: Write>(
     run_in_style(alloc, input, &style, out)
 }
 
-/// Commands are played as steps, which a writer writes: each alone, or behind the command's own line.
+/// Commands are played as steps, which a writer writes: each alone, or after the command's own line.
 #[derive(Clone, Copy)]
 pub struct Stepwise<S: StepWriter> {
     pub alloc: Global,
@@ -65,7 +65,7 @@ impl<S: StepWriter> Style for Stepwise<S> {
     }
 }
 
-/// Plays commands as steps, each behind the command's own line.
+/// Plays commands as steps, each after the command's own line.
 fn play_echoed<F: MissFile, S: StepWriter, W: Write>(
     alloc: Global,
     machine: Machine<F>,

@@ -21,7 +21,7 @@ module _ {W : Type 0} (took : W → List ℕ → W → Type 0) (texts : ℕ → 
       ∙ ap (λ (these : List (List ℕ)). with_commas_from first (these ++ flat_map texts behind)) none)
       old last rest
 
-  -- one that has an item, and then those behind it
+  -- one that has an item, and then those after it
   pub one_at : (text : List ℕ) → i < n → texts i ≡ text ∷ [] → (old mid new last : W)
       → WritesInCalls took old (before_text first) mid → WritesInCalls took mid text new
       → WritesInCalls took new (items false (drop (i + 1) (range_with_len 0 n))) last
@@ -33,7 +33,7 @@ module _ {W : Type 0} (took : W → List ℕ → W → Type 0) (texts : ℕ → 
       ∙ ap (λ (these : List (List ℕ)). with_commas_from first (these ++ flat_map texts behind)) one)
       old mid new last comma written rest
 
-  -- behind the last number there is none
+  -- after the last number there is none
   pub none_behind : n ≤ i → (now : W) → WritesInCalls took now (items first (drop i (range_with_len 0 n))) now
   none_behind end now =
       last_text took items first (range_with_len 0 n) i (omega (arith, length-range_with_len 0 n, end)) refl now

@@ -22,7 +22,7 @@ use Rattle.slice_queues_message.specs.declared.channel.Pick.TheVariants as picks
 
 -- ---- accesses
 
--- why an access isn't accepted, behind its status as the first word: the number and the name of the reason
+-- why an access isn't accepted, after its status as the first word: the number and the name of the reason
 abbrev pub text_of_reason : List ℕ → ℕ → List ℕ → List ℕ
 text_of_reason status number name =
     codes "," ++ (decimal number ++ (codes ",\"" ++ (name ++ (codes "\"],\"status\":\"" ++ (status

@@ -6,7 +6,7 @@ use Rattle.litmus_text.specs.declared.command.Command.{Command}
 use Rattle.script_json.specs.Call.{text_of_call}
 use Rattle.script_json.specs.Text.{quoted, value_of}
 
--- what happened behind an answer, where that is told
+-- what happened after an answer, where that is told
 abbrev pub happened_of : Option (List ℕ) → List ℕ
 happened_of None = []
 happened_of (Some told) = codes ",\"happened\":" ++ quoted told
@@ -23,12 +23,12 @@ item_of_line line = codes "{\"words\":[" ++ (with_commas (map value_of (words_of
 abbrev pub items_of_lines : List (List ℕ) → List ℕ
 items_of_lines shown = with_commas (map item_of_line shown)
 
--- what stands before the command as data: the number of its line, and the line
+-- what is before the command as data: the number of its line, and the line
 abbrev pub head_of : ℕ → List ℕ → List ℕ
 head_of number line =
     codes "{\"line\":" ++ decimal number ++ codes ",\"command\":" ++ quoted line ++ codes ",\"call\":"
 
--- .. and behind it: the items of its answer
+-- .. and after it: the items of its answer
 abbrev pub tail_of : List ℕ → List ℕ
 tail_of items = codes ",\"answer\":[" ++ items ++ codes "]}\n"
 

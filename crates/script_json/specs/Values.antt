@@ -84,7 +84,7 @@ Values config slices line (steps.Pump calls pumped) before after =
 Values config slices line (steps.Show command text) before after =
     Appends before after (items_shown config slices command text.items)
 
--- a delivery of a pump, behind which stands another or what is left
+-- a delivery of a pump, after which stands another or what is left
 abbrev pub ValuesNext : WritingNext
 ValuesNext config slices delivery before after =
     Appends before after (item_of (members_of_made delivery.pick) (Some (told_of_delivery delivery.told)) ++ codes ",")

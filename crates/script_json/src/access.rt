@@ -46,7 +46,7 @@ impl fmt::Display for Access {
     }
 }
 
-/// Why an access isn't accepted, behind its status as the first word: the number and the name of the reason.
+/// Why an access isn't accepted, after its status as the first word: the number and the name of the reason.
 #[derive(Clone, Copy)]
 struct Reason {
     status: &'static str,

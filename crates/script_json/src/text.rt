@@ -10,7 +10,7 @@ use litmus_text::Words;
 use stats_report::{Cut, write_text};
 use std::io::Write;
 
-/// Writes what stands before an item of a list: a comma, but before the first.
+/// Writes what is before an item of a list: a comma, but before the first.
 pub(crate) fn write_before<W: Write>(is_first: bool, out: &mut W) -> Result<(), Cut>
     ensures { OnOk result (Appends (W.contents out.old) (W.contents out.new) (before_text is_first)) }
 {

@@ -186,7 +186,7 @@ impl ValueWriter {
     }
 }
 
-/// Writes a delivery that a pump made. Behind it stands another, or what is left.
+/// Writes a delivery that a pump made. After it stands another, or what is left.
 fn write_made<W: Write>(pick: Pick, told: &[u8], out: &mut W) -> Result<(), TextFault>
     ensures written { OnOk result (Appends (W.contents out.old) (W.contents out.new)
         (item_of (members_of_made pick) (Some told.now) ++ codes ",")) }

@@ -40,7 +40,7 @@ text_of_call commands.Waiting = codes "{\"name\":\"waiting\"}"
 text_of_call commands.Show = codes "{\"name\":\"show\"}"
 text_of_call (commands.Pump calls) = codes "{\"name\":\"pump\"}"
 
--- What the directory sends on forwarded channels for a core's request. Only there can a message stand behind another,
+-- What the directory sends on forwarded channels for a core's request. Only there can a message follow another,
 -- where what is in front of the channels doesn't show it.
 abbrev pub text_of_forwards : CoreId → DirSends → List ℕ
 text_of_forwards core (dir_sends.FwdGetS owner) =

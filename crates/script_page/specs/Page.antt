@@ -26,7 +26,7 @@ use Rattle.script_page.specs.declared.frame.run.TheConstants.{RUN}
 use Rattle.script_page.specs.declared.frame.time.TheConstants.{TIME}
 use Rattle.slice_core_plan.specs.Calls.{PartsView}
 
--- what stands before the steps: the script itself, and the protocol's tables
+-- what is before the steps: the script itself, and the protocol's tables
 abbrev pub text_of_begin : List ℕ → List ℕ
 text_of_begin script =
     HEAD.now ++ (BODY.now ++ (codes "{\"script\":" ++ (json_of script ++ (codes ",\"cache\":"
@@ -48,7 +48,7 @@ unfoldable pub code_of_page : Bool → List ℕ
 code_of_page guess =
     RUN.now ++ (TIME.now ++ (code_of_diagram ++ (FOCUS.now ++ (STORY.now ++ (code_if guess GUESS.now ++ TAIL.now)))))
 
--- .. and what stands behind the steps
+-- .. and what follows the steps
 abbrev pub text_of_end : Bool → List ℕ
 text_of_end guess = codes "null]}\n" ++ code_of_page guess
 

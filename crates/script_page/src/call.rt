@@ -134,7 +134,7 @@ impl fmt::Display for Next {
     }
 }
 
-/// What the directory sends on forwarded channels for the request of a pick: only there can a message stand behind
+/// What the directory sends on forwarded channels for the request of a pick: only there can a message follow
 /// another.
 #[derive(Clone, Copy)]
 struct Forwards {

@@ -121,7 +121,7 @@ fn page_on<F: MissFile, W: Write>(
     steps(alloc, machine, commands, guess, out)
 }
 
-/// The steps, and what stands behind them.
+/// The steps, and what follows them.
 fn steps<F: MissFile, W: Write>(
     alloc: Global,
     machine: Machine<F>,
@@ -144,7 +144,7 @@ fn steps<F: MissFile, W: Write>(
     }
 }
 
-/// Writes what stands before the steps.
+/// Writes what is before the steps.
 fn begin<W: Write>(alloc: Global, script: &[u8], out: &mut W) -> Result<(), TextFault>
     ensures begun { OnOk result (Appends (W.contents out.old) (W.contents out.new) (text_of_begin script.now)) }
     ensures fault { IfErr result IsOfRun }
@@ -214,7 +214,7 @@ fn print_directory_table<W: Write>(out: &mut W) -> fmt::Result
     write_directory_table(true, &mut answers)
 }
 
-/// Writes what stands behind the steps.
+/// Writes what follows the steps.
 fn end<W: Write>(guess: bool, out: &mut W) -> Result<(), TextFault>
     ensures ended { OnOk result (Appends (W.contents out.old) (W.contents out.new) (text_of_end guess)) }
     ensures fault { IfErr result IsOfRun }

@@ -39,7 +39,7 @@ refuses config said line_faults.BadNumber wrong own written has = wrong.1 own wr
 refuses config said line_faults.OutOfRange wrong own written has = wrong.1 own written has
 refuses config said other wrong own written has = wrong
 
--- ---- what is wrong behind a word is wrong with the line
+-- ---- what is wrong after a word is wrong with the line
 
 behind_word : {X : Type 0} (config : Config) (name : List ℕ) (words : List (List ℕ)) (behind : X → List Part)
     (Has : X → Type 0) (line : X → Own)
@@ -135,7 +135,7 @@ add_fault config words =
     (λ p. owns.Access (record { 0 = p.0 }) (ops.Add p.2) (record { 0 = p.1 }))
     (λ P h. only_add words P (λ core word delta. h (core.0, word.0, delta))) (λ p. refl) (λ p has. has)
 
--- the core, the word and the two values behind `cas`
+-- the core, the word and the two values after `cas`
 abbrev four_parts : ℕ × ℕ × ℕ × ℕ → List Part
 four_parts p = num p.0 ∷ num p.1 ∷ num p.2 ∷ num p.3 ∷ []
 
@@ -149,12 +149,12 @@ cas_fault config words =
     (λ p. owns.Access (record { 0 = p.0 }) (ops.Cas p.2 p.3) (record { 0 = p.1 }))
     (λ P h. only_cas words P (λ core word expect new. h (core.0, word.0, expect, new))) (λ p. refl) (λ p has. has)
 
--- nothing stands behind `cas`
+-- nothing follows `cas`
 pub cas_alone : (config : Config) → IsFaultOfOwn config (codes "cas" ∷ []) line_faults.NotACommand
 unfolding IsFaultOf
 cas_alone config = cas_fault config [] line_faults.NotACommand (λ p form. form)
 
--- the numbers behind the core are at fault
+-- the numbers after the core are at fault
 pub cas_numbers : (config : Config) (core : List ℕ) (others : List (List ℕ)) (fault : LineFault)
     → IsFormFaultOf three_parts others fault → IsFaultOfOwn config (codes "cas" ∷ core ∷ others) fault
 unfolding IsFaultOf
@@ -184,7 +184,7 @@ cas_lacks config core others a b d n written number is none fault out =
     (lacks _ _ (λ p. HasFirst config p.0) (digits_value 10 core, a, b, d) (number, refl, written)
     (λ p w has. none (subst (λ m. m < config.cores) (sym (is ∙ w.1)) has)) fault out)
 
--- ---- a slice that is named behind `next`
+-- ---- a slice that is named after `next`
 
 only_named : (word : List ℕ) (words : List (List ℕ)) (P : Option SliceId → Type 0)
     → ((n : ℕ) → P (Some (record { 0 = n }))) → (slice : Option SliceId)
@@ -192,7 +192,7 @@ only_named : (word : List ℕ) (words : List (List ℕ)) (P : Option SliceId →
 only_named word words P h None form = absurd form
 only_named word words P h (Some slice) form = h slice.0
 
--- some word stands there, and what is wrong with it as a number is wrong with the line
+-- some word is there, and what is wrong with it as a number is wrong with the line
 pub next_fault : {W : Type 0} (config : Config) (text : W → List ℕ) (words : List W) → length words ≢ 0
     → (fault : LineFault)
     → IsFaultOf (λ n. HasForm (map text words) (one_part n)) (λ n. Writes (map text words) (one_part n))
@@ -211,7 +211,7 @@ next_fault config text (word ∷ words) some fault h =
     (λ n form. form) (λ n w. w)
     (λ n w. w) (λ n has. has) (λ slice w. HasForm-Writes (text word ∷ map text words) (parts_of_slice slice) w) fault h)
 
--- ---- words behind which nothing stands
+-- ---- words after which nothing stands
 
 pub undo_fault : (config : Config) (words : List (List ℕ)) (fault : LineFault) → IsFormFaultOf no_parts words fault
     → IsFaultOfOwn config (codes "undo" ∷ words) fault
@@ -231,7 +231,7 @@ quit_fault config words =
     behind_word config (codes "quit") words no_parts (λ nothing. Unit {0}) (λ nothing. owns.Quit)
     (λ P h. only_quit words P (h tt)) (λ nothing. refl) (λ nothing has. tt)
 
--- ---- behind `save` stands one name
+-- ---- after `save` stands one name
 
 -- nothing stands there
 pub save_alone : (config : Config) → IsFaultOfOwn config (codes "save" ∷ []) line_faults.NotACommand

@@ -30,7 +30,7 @@ IsPlayed config line old new old_script new_script =
     (command : Command) × (before : Option (List ℕ)) × (after : Option (List ℕ))
     × PlaysLine config (kept_words line) line command old new before after old_script new_script
 
--- the lines are played, in order: each on the slices, and behind the script, that the one before it left
+-- the lines are played, in order: each on the slices, and after the script, that the one before it left
 abbrev pub PlaysLines : Config → List (List ℕ) → List PartsView → List PartsView → List ℕ → List ℕ → Type 0
 PlaysLines config [] old new old_script new_script = (new ≡ old) × (new_script ≡ old_script)
 PlaysLines config (line ∷ more) old new old_script new_script =

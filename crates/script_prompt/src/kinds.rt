@@ -100,7 +100,7 @@ impl AnySession {
     }
 }
 
-/// Plays commands on a new machine, each behind its own line, and with what happened behind its answer.
+/// Plays commands on a new machine, each after its own line, and with what happened after its answer.
 fn play_on<F: MissFile, W: Write>(
     alloc: Global,
     config: Checked,

@@ -64,7 +64,7 @@ pub(crate) fn own_word(name: &[u8]) -> Option<Word>
     value_named(&WORDS, name)
 }
 
-/// What the prompt does at this word with these other words behind it, at a machine of this configuration.
+/// What the prompt does at this word with these other words after it, at a machine of this configuration.
 pub(crate) fn read_own<'a>(
     config: &Checked,
     word: Word,

@@ -15,7 +15,7 @@ use std::fmt::Write as _;
 use std::io::{BufRead, Write};
 use std::{io, str};
 
-/// Plays a script, and then answers each line of the input at once, behind this mark. Returns the exit status.
+/// Plays a script, and then answers each line of the input at once, after this mark. Returns the exit status.
 pub fn run_prompt<R: BufRead, W: Write, S: Saver>(
     alloc: Global,
     script: &[u8],

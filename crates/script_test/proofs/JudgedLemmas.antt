@@ -9,7 +9,7 @@ use Rattle.std.specs.Option.{option_to_list}
 use Rattle.script_test.specs.Judged.{BeginBehind, IsBefore, IsFirstUnlike, IsJudged, IsSame, IsUnlike, IsUnlikeFrom}
 use Rattle.script_test.specs.Judged.{Unlike}
 
--- behind so many lines stands one that isn't in front of the next statement, or none
+-- after so many lines stands one that isn't in front of the next statement, or none
 pub begin_behind : (answers wants : List (ℕ × List ℕ)) (n : ℕ) (d : ℕ × List ℕ) → 0 < length answers
     → ((e : ℕ × List ℕ) → n < length wants → (get_or answers 0 d).0 ≤ (get_or wants n e).0)
     → BeginBehind answers (drop n wants)
@@ -45,7 +45,7 @@ module _ {X : Type 0} (view : X → ℕ × List ℕ) (xs : List X) (i : ℕ) (d 
       at_drop_more (λ left. left) (map view xs) i (view d) inside
       ∙ ap (λ w. w ∷ drop (i + 1) (map view xs)) (get_or-map view xs i d)
 
-  -- a line that is as wanted, and then the first difference of those behind it
+  -- a line that is as wanted, and then the first difference of those after it
   pub first_more : (at : ℕ) (got : List ℕ) (more : List (List ℕ)) (unlike : Option Unlike) → i < length xs
       → IsSame (view (get_or xs i d)).1 got → IsFirstUnlike at (drop (i + 1) (map view xs)) more unlike
       → IsFirstUnlike at (drop i (map view xs)) (got ∷ more) unlike
@@ -71,7 +71,7 @@ module _ {X : Type 0} (view : X → ℕ × List ℕ) (xs : List X) (i : ℕ) (d 
       ((view (get_or xs i d)).0, Some (view (get_or xs i d)).1, None, None)))
       (sym (next_of within)) refl
 
-  -- the difference of an answer, if it has one, and then those of the answers behind it
+  -- the difference of an answer, if it has one, and then those of the answers after it
   pub judged_more : (wants mine later : List (ℕ × List ℕ)) (unlike : Option Unlike) (others : List Unlike)
       → i < length xs → wants ≡ mine ++ later
       → All (IsBefore (drop (i + 1) (map view xs))) mine → BeginBehind (drop (i + 1) (map view xs)) later
@@ -116,7 +116,7 @@ tail_is xs n =
     let left : length (drop n xs) ≡ length xs - n = length-drop n xs in
     take_all (length xs - n) (drop n xs) (omega (arith, left))
 
--- behind the last answer nothing is left to find
+-- after the last answer nothing is left to find
 pub judged_all : {Y : Type 0} (u : Y → ℕ × List ℕ) (answers : List Y) (place : ℕ) (left wants : List (ℕ × List ℕ))
     (found : List Unlike) → length answers ≤ place
     → ((others : List Unlike) → IsJudged left (drop place (map u answers)) others

@@ -14,7 +14,7 @@ slice_get_behind : {X : Type 0} (front rest : List X) → slice_get (front ++ re
 slice_get_behind [] rest = refl
 slice_get_behind (x ∷ front) rest = slice_get_behind front rest
 
--- two lines have the same words in front, and behind these not the same
+-- two lines have the same words in front, and after these not the same
 unlike_behind : (a b : List ℕ) (front x y : List (List ℕ)) (word : ℕ)
     → words_of_line a ≡ front ++ x → words_of_line b ≡ front ++ y → word ≡ length front + 1
     → slice_get x 0 ≢ slice_get y 0 → IsUnlikeFrom a b word

@@ -9,7 +9,7 @@ use Rattle.litmus_script.specs.Script.{IsSetUp, Plainly, Playing}
 use Rattle.mshr_file.specs.Miss.{Bound}
 use Rattle.slice_core_plan.specs.Calls.{PartsView}
 
--- Commands are played on these slices in order, and each prints, behind nothing, the text at its place.
+-- Commands are played on these slices in order, and each prints, after nothing, the text at its place.
 abbrev pub Answer : Config → List (ℕ × List (List ℕ)) → List PartsView → List PartsView → List (List ℕ) → Type 0
 Answer config [] old new [] = new ≡ old
 Answer config [] old new (text ∷ texts) = ⊥

@@ -5,7 +5,7 @@ use Rattle.std.specs.List.{position, prefix_len}
 use Rattle.std.specs.Option.{option_map}
 use Rattle.std.specs.Char.{is_ascii_whitespace}
 
--- a byte is hidden that is the first `=` of its line, or stands behind it
+-- a byte is hidden that is the first `=` of its line, or follows it
 abbrev pub hides : Bool → ℕ → Bool
 hides hidden byte = not (byte == 10) && (hidden || byte == 61)
 
@@ -19,7 +19,7 @@ script_in hidden (byte ∷ more) = (if hides hidden byte then 32 else byte) ∷ 
 abbrev pub from_words : List ℕ → List ℕ
 from_words text = drop (prefix_len is_ascii_whitespace text) text
 
--- what stands behind the first `=` of a line, if it has one
+-- what follows the first `=` of a line, if it has one
 abbrev pub behind_equals : List ℕ → Option (List ℕ)
 behind_equals line = option_map (λ k. from_words (drop (k + 1) line)) (position (λ b. b == 61) line)
 
@@ -32,7 +32,7 @@ abbrev pub one_wanted : ℕ → Option (List ℕ) → List (ℕ × List ℕ)
 one_wanted number None = []
 one_wanted number (Some text) = (number, text) ∷ []
 
--- what lines want, behind n others: each wanted line with the number of the line that it stands in, from 1
+-- what lines want, after n others: each wanted line with the number of the line that it is in, from 1
 abbrev pub wants_from : ℕ → List (List ℕ) → List (ℕ × List ℕ)
 wants_from n [] = []
 wants_from n (line ∷ more) = one_wanted (n + 1) (wanted_in line) ++ wants_from (n + 1) more

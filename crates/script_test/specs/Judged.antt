@@ -48,7 +48,7 @@ abbrev pub IsUnlike : ℕ × List ℕ → List (ℕ × List ℕ) → Option Unli
 IsUnlike answer [] unlike = unlike ≡ None
 IsUnlike answer (want ∷ wants) unlike = IsFirstUnlike answer.0 (want ∷ wants) (lines answer.1) unlike
 
--- the line stands in front of the next statement, if there is one
+-- the line is in front of the next statement, if there is one
 abbrev pub IsBefore : List (ℕ × List ℕ) → ℕ × List ℕ → Type 0
 IsBefore [] want = Unit {0}
 IsBefore (next ∷ more) want = want.0 < next.0
@@ -59,7 +59,7 @@ BeginBehind answers [] = Unit {0}
 BeginBehind answers (want ∷ wants) = ¬ IsBefore answers want
 
 -- The differences of all answers, in order: of each the first, if there is one. What stands in a statement's line and in
--- the lines behind it, up to the next statement, is wanted of it.
+-- the lines after it, up to the next statement, is wanted of it.
 abbrev pub IsJudged : List (ℕ × List ℕ) → List (ℕ × List ℕ) → List Unlike → Type 0
 IsJudged wants [] unlikes = unlikes ≡ []
 IsJudged wants (answer ∷ more) unlikes =

@@ -11,7 +11,7 @@ use std::alloc::{AllocError, Global};
 /// A wanted line of an answer.
 #[derive(Clone, Copy)]
 pub struct Want<'a> {
-    /// The number of the line that it stands in.
+    /// The number of the line that it is in.
     pub line: usize,
     pub text: &'a [u8],
 }
@@ -36,7 +36,7 @@ fn shown(hidden: bool, byte: u8) -> u8
     if hidden { b' ' } else { byte }
 }
 
-/// Whether a byte is hidden, behind one that is or isn't.
+/// Whether a byte is hidden, after one that is or isn't.
 fn hides(hidden: bool, byte: u8) -> bool
     ensures { result ≡ hides hidden byte }
 {
@@ -85,7 +85,7 @@ fn wanted_in(line: &[u8]) -> Option<&[u8]>
     behind_equals(line)
 }
 
-/// What stands behind the first `=` of a line.
+/// What follows the first `=` of a line.
 fn behind_equals(line: &[u8]) -> Option<&[u8]>
     ensures { option_map (λ t. t.now) result ≡ behind_equals line.now }
 {

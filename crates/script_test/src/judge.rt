@@ -56,7 +56,7 @@ fn push_difference<'a>(
     }
 }
 
-/// How many of the wanted lines stand in front of the next statement.
+/// How many of the wanted lines are in front of the next statement.
 fn count_before(wants: &[Want<'_>], next: &[Answer<'_>]) -> usize
     ensures few { result ≤ length wants.now }
     ensures before { All (IsBefore (map (λ a. (a.line, a.text.now)) next.now))

@@ -6,7 +6,7 @@ use Rattle.litmus_text.specs.Command.{parts_of_op}
 use Rattle.litmus_text.specs.Form.{Part, key, num}
 use Rattle.script_text.specs.Line.{line_of_parts, text_of_part, text_of_parts}
 
--- what stands before the access, and then the access
+-- what is before the access, and then the access
 before_access : (part : Part) (op : Op) (word : ℕ)
     → text_of_parts (part ∷ parts_of_op op word) ≡ text_of_part part ++ (codes " " ++ text_of_parts (parts_of_op op word))
 unfolding parts_of_op

@@ -14,7 +14,7 @@ pub first_left : (old new : List (List ℕ)) (r : Option (Bor (List ℕ)))
 first_left old new None none = rw (none.0, none.1) (refl, refl)
 first_left old new (Some x) some = rw some (refl, refl)
 
--- the change of the first line, and then those of the lines behind it
+-- the change of the first line, and then those of the lines after it
 pub change_written : (before rest : List (List ℕ)) (told : Option (List ℕ)) (value : List ℕ) (more : List (List ℕ))
     (a b c : Option (List ℕ)) → told ≡ slice_get before 0 → rest ≡ drop 1 before → Appends a b (change_of told value)
     → Appends b c (changes rest more) → Appends a c (changes before (value ∷ more))

@@ -27,7 +27,7 @@ module _ {Y : Type 0} (all : List ℕ → Y) (n i : ℕ) where
       let long = length-range_with_len 0 n in
       at_drop_all all (range_with_len 0 n) i (omega (arith, long, end))
 
--- the text for the next number, and then those for the numbers behind it
+-- the text for the next number, and then those for the numbers after it
 pub number_written : (text : ℕ → List ℕ) (n i : ℕ) (a b c : Option (List ℕ)) → i < n → Appends a b (text i)
     → Appends b c (flat_map text (drop (i + 1) (range_with_len 0 n)))
     → Appends a c (flat_map text (drop i (range_with_len 0 n)))
@@ -35,7 +35,7 @@ number_written text n i a b c below one more =
     subst (Appends a c) (sym (numbers_more (λ (xs : List ℕ). flat_map text xs) n i below))
     (Appends-trans a b c (text i) _ one more)
 
--- behind the last number there is none
+-- after the last number there is none
 pub no_number_written : (text : ℕ → List ℕ) (n i : ℕ) (a : Option (List ℕ)) → n ≤ i
     → Appends a a (flat_map text (drop i (range_with_len 0 n)))
 no_number_written text n i a end =

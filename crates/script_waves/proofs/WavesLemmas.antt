@@ -40,7 +40,7 @@ on_ok_from (Err e) holds = tt
 -- ---- channels
 
 module _ {W : Type 0} (took : W → List ℕ → W → Type 0) where
-  -- the next name behind another, and then those behind it
+  -- the next name after another, and then those after it
   pub next_channel : (left : List Channel) (channel : Channel) → Some channel ≡ slice_get left 0 → (old mid new : W)
       → WritesInCalls took old (text_behind channel) mid
       → WritesInCalls took mid (flat_map text_behind (drop 1 left)) new
@@ -51,7 +51,7 @@ module _ {W : Type 0} (took : W → List ℕ → W → Type 0) where
       writes_in_calls_append took old (text_behind c) mid _ new
       (subst (λ (d : Channel). WritesInCalls took old (text_behind d) mid) is one) rest
 
-  -- the first name, and then those behind it
+  -- the first name, and then those after it
   pub names_from : (all rest : List Channel) (channel : Channel) → Some channel ≡ slice_get all 0
       → rest ≡ drop 1 all → (old mid new : W)
       → WritesInCalls took old (name_of_channel channel) mid → WritesInCalls took mid (flat_map text_behind rest) new

@@ -1,4 +1,4 @@
--- Of the values behind a command, those that it changed.
+-- Of the values after a command, those that it changed.
 use Rattle.std.specs.Prelude.{ℕ, Bool, false, List, [], ◌∷◌, ◌++◌, codes, drop, if◌then◌else◌, slice_get}
 use Rattle.std.specs.Prelude.{Option, Some, None}
 use Rattle.std.specs.Str.{bytes_eq}
@@ -11,7 +11,7 @@ is_told (Some before) value = bytes_eq before value
 abbrev pub change_of : Option (List ℕ) → List ℕ → List ℕ
 change_of before value = if is_told before value then [] else value ++ codes "\n"
 
--- Lines of values that stood before, and those that stand now: each stands for the signal of the line at the same place,
+-- Lines of values that stood before, and those that are now: each stands for the signal of the line at the same place,
 -- and those of signals that are new come last. What differs is written.
 abbrev pub changes : List (List ℕ) → List (List ℕ) → List ℕ
 changes before [] = []

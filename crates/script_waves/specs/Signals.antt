@@ -1,4 +1,4 @@
--- The signals of a line and of a core, and what stands before the values: a scope for each, with its signals.
+-- The signals of a line and of a core, and what is before the values: a scope for each, with its signals.
 use Rattle.std.specs.Prelude.{ℕ, List, ◌++◌, codes, decimal}
 use Rattle.std.specs.List.{flat_map, range_with_len}
 use Rattle.address_map.specs.declared.address.LineAddr.{LineAddr}
@@ -83,7 +83,7 @@ text_of_slices cores slices = flat_map (text_of_slice cores) (range_with_len 0 s
 
 -- ---- all of them
 
--- what stands before the values: the signals of these lines and of all cores, and the time at which nothing was played
+-- what is before the values: the signals of these lines and of all cores, and the time at which nothing was played
 -- yet
 abbrev pub text_of_header : ℕ → ℕ → List LineAddr → List ℕ
 text_of_header cores slices lines =

@@ -29,7 +29,7 @@ name_of_channel (channels.Data core) = codes "d" ++ decimal core.0
 name_of_channel (channels.Ack to from) = codes "a" ++ decimal to.0 ++ codes "." ++ decimal from.0
 name_of_channel channels.Home = codes "h"
 
--- .. behind another
+-- .. after another
 abbrev pub text_behind : Channel → List ℕ
 text_behind channel = codes "+" ++ name_of_channel channel
 

@@ -1,4 +1,4 @@
--- A script's run as waves: what the signals of its lines and of the cores are behind each command.
+-- A script's run as waves: what the signals of its lines and of the cores are after each command.
 use Rattle.std.specs.Prelude.{◌≡◌, ◌⊎◌, ℕ, ◌+◌, ◌%◌, ◌^◌, List, [], ◌++◌, Option, Some}
 use Rattle.std.specs.Io.KnownBytes.{Appends}
 use Rattle.std.specs.Str.Lines.{lines}
@@ -28,7 +28,7 @@ use Rattle.slice_core_plan.specs.Calls.{PartsView}
 use Rattle.slice_queues_message.specs.declared.channel.Pick.{Pick}
 
 -- what is known of a run: the machine's slices, the lines that were named, how many commands were played and deliveries of
--- pumps made, and the values that stand behind the last
+-- pumps made, and the values that follow the last
 pub record Shown : Type 0 where
   pub slices : List PartsView
   pub named : List LineAddr
@@ -43,7 +43,7 @@ next count = (count + 1) % 2 ^ 64
 abbrev pub text_of_values : Config → List PartsView → List LineAddr → List ℕ
 text_of_values config slices named = text_of_uses config.cores 0 slices ++ text_of_lines config slices named
 
--- behind a command on this line: the time, the command, and which values it changed
+-- after a command on this line: the time, the command, and which values it changed
 abbrev pub text_of_tick : List ℕ → ℕ → List ℕ → List ℕ → List ℕ
 text_of_tick line played before values =
     text_of_time played ++ (text_of_command line ++ changes (lines before) (lines values))

@@ -1,4 +1,4 @@
-//! Of the values behind a command, those that it changed.
+//! Of the values after a command, those that it changed.
 ghost use Rattle.std.specs.Prelude.{◌≡◌, ◌++◌, IfErr, OnOk, codes, drop, slice_get};
 ghost use Rattle.std.specs.Io.KnownBytes.{Appends};
 ghost use Rattle.std.specs.Option.{option_map};

@@ -48,7 +48,7 @@ pub(crate) fn write_names<W: Write>(waiting: LineWaiting<'_>, out: &mut W) -> fm
     }
 }
 
-/// Writes the names of the channels behind the first.
+/// Writes the names of the channels after the first.
 fn write_further<W: Write>(waiting: LineWaiting<'_>, out: &mut W) -> fmt::Result
     ensures { OnOk result (WritesInCalls W.write_str_gives out.old (flat_map text_behind waiting.entry) out.new) }
 {

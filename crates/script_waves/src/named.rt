@@ -7,7 +7,7 @@ ghost use Rattle.script_waves.specs.Named.{Names, line_named};
 use address_map::{Checked, LineAddr};
 use litmus_text::{Command, TextFault};
 
-/// Puts the command's line behind those that were named, where it is a line of the memory and new.
+/// Puts the command's line after those that were named, where it is a line of the memory and new.
 pub(crate) fn note_line(
     config: &Checked,
     command: Command,

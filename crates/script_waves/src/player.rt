@@ -25,7 +25,7 @@ use std::alloc::Global;
 use std::fmt;
 use std::io::Write;
 
-/// A player that writes, behind each command and each delivery of a pump, what it changed of what each core has in use, and
+/// A player that writes, after each command and each delivery of a pump, what it changed of what each core has in use, and
 /// of what the slices have of each line named so far.
 #[derive(Drop)]
 pub(crate) struct Waved<F: MissFile> {
@@ -34,7 +34,7 @@ pub(crate) struct Waved<F: MissFile> {
     pub(crate) named: Vec<LineAddr>,
     /// How many commands were played and deliveries of pumps made, modulo 2^64.
     pub(crate) played: u64,
-    /// The values behind the last command.
+    /// The values after the last command.
     pub(crate) values: Vec<u8>,
     /// The room for an answer, which isn't shown.
     answer: Vec<u8>,
@@ -268,7 +268,7 @@ impl<F: MissFile> Waved<F> {
         }
     }
 
-    /// Puts the command's line behind those that were named, where it is a line of the memory and new.
+    /// Puts the command's line after those that were named, where it is a line of the memory and new.
     fn name(&mut self, command: Command) -> Result<(), TextFault>
         ensures machine { self.new.machine ≡ self.old.machine }
         ensures count { self.new.played ≡ self.old.played }
@@ -281,7 +281,7 @@ impl<F: MissFile> Waved<F> {
         note_line(&machine.config, command, named)
     }
 
-    /// The values that stand now.
+    /// The values that are now.
     fn look(&self) -> Result<Vec<u8>, TextFault>
         ensures values { IfOk result (λ values. values.items
             ≡ text_of_values self.now.machine.config self.now.machine.slices.items self.now.named.items) }
@@ -304,7 +304,7 @@ impl<F: MissFile> Waved<F> {
         self.tell_lines(out)
     }
 
-    /// Writes what there is behind a command on this line, where these values stand now.
+    /// Writes what there is after a command on this line, where these values are now.
     fn tell<W: Write>(&self, line: &[u8], values: &[u8], out: &mut W) -> Result<(), TextFault>
         ensures told { OnOk result (Appends (W.contents out.old) (W.contents out.new)
             (text_of_tick line.now self.now.played self.now.values.items values.now)) }

@@ -24,7 +24,7 @@ use std::alloc::Global;
 use std::io::Write;
 
 /// Writes a script's run as waves. Returns the exit status. A script at fault has none: its lines are known only once
-/// it has run, and they stand first.
+/// it has run, and they are first.
 pub fn run_waves<W: Write>(alloc: Global, input: &[u8], out: &mut W) -> Result<u8, TextFault>
     ensures status { IfOk result (λ status. status ≡ 0) }
     ensures printed { OnOk result (IsWaves (statements_from 0 (lines input.now))

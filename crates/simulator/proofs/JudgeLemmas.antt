@@ -30,7 +30,7 @@ slice_get-last : {X : Type 0} (xs : List X) (y : X) → slice_get (xs ++ y ∷ [
 slice_get-last [] y = refl
 slice_get-last (z ∷ zs) y = slice_get-last zs y
 
--- the first entry at fault stays so, whatever comes behind it
+-- the first entry at fault stays so, whatever comes after it
 still_illegal : (initial : ℕ → ℕ) (entries : List Entry) (e : Entry) (k : ℕ) (reason : Reason)
     → IsVerdict initial entries (verdicts.Illegal k reason)
     → IsVerdict initial (entries ++ e ∷ []) (verdicts.Illegal k reason)
@@ -42,7 +42,7 @@ still_illegal initial entries e k reason h =
     rw (take-append-le k entries (e ∷ []) (omega arith))
     (h.0, h.1, (x, slice_get-append entries (e ∷ []) k x at, h.2.2))
 
--- an entry at fault behind a log
+-- an entry at fault after a log
 first_illegal : (judge : Judge) (initial : ℕ → ℕ) (entries : List Entry) (e : Entry) (k : ℕ) (reason : Reason)
     → k ≡ length entries
     → Knows judge initial entries → IsWrong initial entries e reason

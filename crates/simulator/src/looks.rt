@@ -103,7 +103,7 @@ fn count_left(left: &mut LineWaiting<'_>) -> u64
     u64::MAX
 }
 
-/// The channel behind so many others that are left.
+/// The channel after so many others that are left.
 fn nth_left(left: &mut LineWaiting<'_>, nth: u64) -> Option<Channel>
     ensures { result ≡ slice_get left.old nth }
 {

@@ -74,7 +74,7 @@ record IsTarget (p : PartsView) (core : CoreId) (request : Request) (target : Ta
 own-target : (p : PartsView) (core : CoreId) (request : Request) → IsTarget p core request (target_for p core request)
 own-target p core request = record { word = place-within request.word.0; tag = refl; next = refl; now = refl }
   where
-    -- a word stands in one of eight places of its line
+    -- a word is in one of eight places of its line
     place-within : (word : ℕ) → word % 8 < 8
     place-within word = omega arith
 

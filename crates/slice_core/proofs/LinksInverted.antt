@@ -56,7 +56,7 @@ FindsRegister _ = Unit {0}
 
 -- ---- a line that nobody waits for
 
--- The table has a row for each access to a copy that stands in the array and waits for nothing.
+-- The table has a row for each access to a copy that is in the array and waits for nothing.
 finds-rests : (cache : CoreCacheView) (local : Local) (state : CopyState) → stands_in_array state ≡ true
     → is_waiting state ≡ false
     → FindsRegister (held_by cache local true state (row_of state cache_events.Load))

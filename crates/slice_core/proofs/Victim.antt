@@ -29,7 +29,7 @@ use Rattle.slice_core_plan.specs.declared.decision.Decision.TheVariants as decis
 use Rattle.slice_core_steps.specs.CoreLines.{last_written_back}
 use Rattle.writeback_buffer.specs.declared.pending.PendingWriteBack.{PendingWriteBack}
 
--- what was put behind others is the last
+-- what was put after others is the last
 behind : {X : Type 0} (xs : List X) (x : X) → slice_get (xs ++ x ∷ []) (length xs) ≡ Some x
 behind [] x = refl
 behind (y ∷ xs) x = behind xs x

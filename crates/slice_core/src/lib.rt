@@ -17,7 +17,7 @@
 //! call does what was decided: its contract is by the same definitions (`decision_of`, `planned_at`, `next_pick`).
 //! [`SliceState::line_view`], [`SliceState::copy`], [`SliceState::targets`], [`SliceState::tag`] and
 //! [`SliceState::ring_line`] show what the slice has. [`SliceState::core_lines`] lists the lines of a core that wait,
-//! that leave, or that stand in one set, and [`SliceState::last_written_back`] names the victim of the last miss.
+//! that leave, or that are in one set, and [`SliceState::last_written_back`] names the victim of the last miss.
 #![tactic(auto)]
 
 pub use address_map::{Block, CoreId, CoreSet, LineAddr, Local, Op, Request, SliceId, WordAddr};

@@ -113,7 +113,7 @@ impl<F: MissFile> SliceState<F> {
     }
 
     /// Makes the delivery of the class that [`SliceState::next`] names, where one can be made. Lines are served in
-    /// turn: one with messages that can be moved is passed over by no more such calls than lines stand in front of it
+    /// turn: one with messages that can be moved is passed over by no more such calls than lines are in front of it
     /// in the ring (`lines_are_served_in_turn` of `slice_core_plan`).
     pub fn deliver_next(&mut self, class: Class) -> DeliveredNext
         ensures step { AfterDeliverNext self.old class result self.new }
@@ -230,7 +230,7 @@ impl<F: MissFile> SliceState<F> {
         Some(self.parts.line_view(local))
     }
 
-    /// A core's copy of a line, which stands in its array, or leaves by its write-back buffer, or is nowhere. None for
+    /// A core's copy of a line, which is in its array, or leaves by its write-back buffer, or is nowhere. None for
     /// a line that isn't the slice's.
     pub fn copy(&self, core: CoreId, line: LineAddr) -> Option<CacheCopy>
         requires { core.0 < length self.now.view.caches }
@@ -285,7 +285,7 @@ impl<F: MissFile> SliceState<F> {
     }
 
     /// The line at a place of the ring, the front at 0. [`SliceState::deliver_next`] looks at lines in this order; each
-    /// line with a message stands there once.
+    /// line with a message is there once.
     pub fn ring_line(&self, place: usize) -> Option<LineAddr>
         ensures { result ≡ slice_get (ring_lines self.now) place }
     {

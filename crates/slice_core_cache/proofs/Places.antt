@@ -1,4 +1,4 @@
--- Where a line stands in its set, after its value was changed in its slot, and after another line of the set left.
+-- Where a line is in its set, after its value was changed in its slot, and after another line of the set left.
 use Rattle.std.proofs.Common.{◌≡◌, ◌≢◌, ℕ, ◌%◌, ◌<◌, Bool, true, false, cond, nat_lt, List, length, get_or, set, refl}
 use Rattle.std.proofs.Common.{ap, sym, ◌∙◌, subst, inl, inr, Option, Some, None, IsSome, is_some, IsSomeAnd, IfSome}
 use Rattle.std.proofs.Common.{MatchOption, position, eq-eqb}

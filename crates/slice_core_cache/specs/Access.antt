@@ -85,7 +85,7 @@ absent_by cache local room (rows.Go next cache_sends.GetS) = with_register room 
 absent_by cache local room (rows.Go next cache_sends.GetM) = with_register room (in_way cache local next asks.GetM)
 absent_by cache local room _ = access_kinds.Stall stalls.NoTarget
 
--- an access to a line that nobody waits for: its copy stands in the array, or leaves, or there is none
+-- an access to a line that nobody waits for: its copy is in the array, or leaves, or there is none
 abbrev pub alone_of : CoreCacheView → Local → Bool → Op → AccessKind
 alone_of cache local room op = by_copy (array_at cache.array local)
   where

@@ -24,7 +24,7 @@ missing_copy state = record no_copy { state = state }
 abbrev pub leaving_copy : Leaving → CacheCopy
 leaving_copy leaving = record { block = leaving.block; state = leaving.state; wants = 0; counted = 0 }
 
--- a copy stands in the array, or else in the write-back buffer, or nowhere
+-- a copy is in the array, or else in the write-back buffer, or nowhere
 abbrev pub found_in : Option CacheCopy → Option Leaving → CacheCopy
 found_in (Some copy) leaving = copy
 found_in None (Some leaving) = leaving_copy leaving

@@ -64,7 +64,7 @@ leaving_lines cache = map (λ entry. entry.line) cache.buffer.write_backs
 abbrev pub array_copy : CoreCacheView → Local → CacheCopy
 array_copy cache local = unwrap_or (array_at cache.array local) no_copy
 
--- where a line stands in its set, if the array holds it
+-- where a line is in its set, if the array holds it
 abbrev pub way_of : CoreCacheView → Local → ℕ
 way_of cache local = unwrap_or (position (holds local) (slots_at cache.array local)) 0
 

@@ -16,7 +16,7 @@ stands_in_array copy_states.SI_A = false
 stands_in_array copy_states.II_A = false
 stands_in_array _ = true
 
--- Array and buffer are sound, no line stands in both, and each copy stands where its state belongs.
+-- Array and buffer are sound, no line is in both, and each copy stands where its state belongs.
 pub record IsKept (cache : CoreCacheView) : Type 0 where
   pub array : IsArray cache.array
   pub buffer : IsBuffer cache.buffer

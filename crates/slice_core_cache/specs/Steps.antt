@@ -107,7 +107,7 @@ abbrev pub leaving_after_evict : CacheCopy → Leaving
 leaving_after_evict copy =
     record { block = copy.block; state = next_by copy.state (row_of copy.state cache_events.Eviction) }
 
--- the line's copy leaves: it stands in the write-back buffer now
+-- the line's copy leaves: it is in the write-back buffer now
 abbrev pub after_evict : CoreCacheView → Local → CoreCacheView
 after_evict cache local = record cache {
   array = without_line_in cache.array local;

@@ -56,7 +56,7 @@ impl CacheCopy {
         asks
     }
 
-    /// A copy that stands in the write-back buffer.
+    /// A copy that is in the write-back buffer.
     pub fn leaving(leaving: Leaving) -> Self
         ensures { result ≡ leaving_copy leaving }
     {

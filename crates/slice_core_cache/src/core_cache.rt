@@ -112,7 +112,7 @@ impl<F: MissFile> CoreCache<F> {
         self.tags.get(tag)
     }
 
-    /// The core's copy of a line, and its way in the set if it stands in the array.
+    /// The core's copy of a line, and its way in the set if it is in the array.
     pub fn copy(&self, local: Local) -> CacheCopy
         ensures { result ≡ copy_of self.now local }
     {

@@ -1,7 +1,7 @@
 //! What one core has in a slice: its array, its miss registers, its write-back buffer, its tags and the generator of
 //! its random victims, and the exact steps on them.
 //!
-//! A copy of a line stands in the array, or in the write-back buffer once it was evicted, or nowhere.
+//! A copy of a line is in the array, or in the write-back buffer once it was evicted, or nowhere.
 //! [`CoreCache::decide`] says what an access does (`access_of` of specs/Access.antt); [`CoreCache::hit`], [`CoreCache::join`],
 //! [`CoreCache::open`] and [`CoreCache::evict`] do it. [`CoreCache::advance`], [`CoreCache::fill`] and [`CoreCache::acknowledge`] are what
 //! messages do to a copy; [`CoreCache::settle`] performs the targets that it then allows (specs/Perform.antt). Each contract

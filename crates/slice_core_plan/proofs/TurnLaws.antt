@@ -40,7 +40,7 @@ or-other deliveries.Blocked deliveries.Blocked still moves = cc
 or-other deliveries.Blocked deliveries.Nothing still moves = cc
 or-other deliveries.Nothing other still moves = refl
 
--- what moves is better than what doesn't, and than all behind it
+-- what moves is better than what doesn't, and than all after it
 or-behind : (one other : Delivery (Local × Channel)) → is_move one ≡ false → is_move other ≡ true → better_of one other ≡ other
 or-behind (deliveries.Moved m) other still moves = cc
 or-behind (deliveries.Broken a) (deliveries.Moved m) still moves = refl
@@ -126,7 +126,7 @@ next-moves v class local can = some-moves v local _ can.0 can.1 can.2 can.3
 
 -- ---- which lines are looked at
 
--- A line with a message that can be moved is the first such, or stands behind all that are looked at.
+-- A line with a message that can be moved is the first such, or follows all that are looked at.
 reached : (v : View) (class : Class) (ring : List ℕ) (local : Local) (place : ℕ)
     → slice_get ring place ≡ Some local.0 → is_move (next_at v class local) ≡ true
     → (next_in v class ring ≡ next_at v class local) ⊎ (looked_at v class ring ≤ place)
@@ -168,9 +168,9 @@ looked-within v class (first ∷ rest) =
     by_first true less = omega arith
     by_first false less = omega (arith, less)
 
--- ---- the ring behind a delivery
+-- ---- the ring after a delivery
 
--- the ring is the old one with lines behind it
+-- the ring is the old one with lines after it
 abbrev pub Extends : List ℕ → List ℕ → Type 0
 Extends old new = (more : List ℕ) × (new ≡ old ++ more)
 
@@ -218,9 +218,9 @@ longer old new extends =
     let sum = ap length extends.1 ∙ length-append old extends.0 in
     omega (arith, sum)
 
--- ---- a line behind those that are looked at
+-- ---- a line after those that are looked at
 
--- what stands behind so many elements stands so many places nearer once these have gone
+-- what follows so many elements stands so many places nearer once these have gone
 get-turned : (ring more behind : List ℕ) (looked place line : ℕ) → looked ≤ place → slice_get ring place ≡ Some line
     → slice_get (drop looked (ring ++ more) ++ behind) (place - looked) ≡ Some line
 get-turned ring more behind looked place line few stands =

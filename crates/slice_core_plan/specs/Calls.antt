@@ -71,7 +71,7 @@ pub record IsNew (c : Config) (bound : Bound) (slice : SliceId) (p : PartsView) 
 
 -- ---- what a call relies on
 
--- A core's request is safe to judge: the counts have room for one more; a copy stands in one place; the array has lines
+-- A core's request is safe to judge: the counts have room for one more; a copy is in one place; the array has lines
 -- of the slice alone; and for a copy that asks for nothing nothing is asked of the directory.
 pub record CanIssue (p : PartsView) (core : CoreId) : Type 0 where
   pub known : core.0 < length p.view.caches
@@ -189,7 +189,7 @@ IsDone old (deliveries.Moved pick) new = AfterDelivery old pick delivered.Moved 
 IsDone old _ new = new ≡ old
 
 -- What the next delivery of a class answers and leaves: the one that is next in the order of the ring is made, where
--- one can be made, and the lines that were looked at for it go behind the others.
+-- one can be made, and the lines that were looked at for it go after the others.
 pub record AfterDeliverNext (old : PartsView) (class : Class) (answer : Delivery Pick) (new : PartsView) : Type 0 where
   pub next : answer ≡ next_pick old class
   pub found : IsNextPick old.view class answer

@@ -99,7 +99,7 @@ after_settling v local core channel copy misses =
 
 -- ---- what is counted, and what is answered
 
--- a message of this channel of a line was taken: the view is another, the message is counted, and the line stands in
+-- a message of this channel of a line was taken: the view is another, the message is counted, and the line is in
 -- the ring
 abbrev pub Moves : PartsView → Local → Channel → View → PartsView → Type 0
 Moves old local channel view new =

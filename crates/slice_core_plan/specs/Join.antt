@@ -25,7 +25,7 @@ abbrev pub after_join : View → CoreId → Request → List Register → View
 after_join v core request misses = with_cache v core (caches.after_join (cache_at v core) request misses)
 
 -- What a join answers and leaves: how many of the core's requests were accepted before it; one target more of the line,
--- behind the others, and one secondary miss more of the core.
+-- after the others, and one secondary miss more of the core.
 abbrev pub AfterJoin : PartsView → CoreId → Request → Local → Issue → PartsView → Type 0
 AfterJoin old core request local answer new =
     (misses : List Register)

@@ -152,11 +152,11 @@ event_of_data v local core (data_messages.Data block acks) =
 event_of_data v local core (data_messages.DataE block) =
     cache_events.DataE (list_all is_load (targets_of (cache_at v core).misses local.0))
 
--- where a copy stands in its set, if the core's array holds it: only there data and acknowledgements come for it
+-- where a copy is in its set, if the core's array holds it: only there data and acknowledgements come for it
 abbrev pub stands_at : View → Local → CoreId → Option ℕ
 stands_at v local core = position (holds local) (slots_at (cache_at v core).array local)
 
--- what data do to a copy that stands there
+-- what data do to a copy that is there
 abbrev pub fill_at : Option ℕ → CopyState → Delivery Transition
 fill_at None next = deliveries.Broken cells.Entry
 fill_at (Some way) next = fill_move way next
@@ -176,7 +176,7 @@ data_by v local core (Some message) =
 abbrev pub data_plan : View → Local → CoreId → Delivery Transition
 data_plan v local core = data_by v local core (core_at (channels_at v local) core.0).data
 
--- what an acknowledgement does to a copy that stands there
+-- what an acknowledgement does to a copy that is there
 abbrev pub acknowledge_at : Option ℕ → CopyState → Delivery Transition
 acknowledge_at None next = deliveries.Broken cells.Entry
 acknowledge_at (Some way) next = ack_move way next

@@ -20,7 +20,7 @@ CanMove v class local =
     (place : ℕ) × (channel : Channel) × (slice_get (waiting_in v class local) place ≡ Some channel)
     × IsMove (plan_of v local channel)
 
--- the line stands at this place of the ring, the front at 0
+-- the line is at this place of the ring, the front at 0
 abbrev pub StandsAt : PartsView → Local → ℕ → Type 0
 StandsAt p local place = slice_get p.ring place ≡ Some local.0
 
@@ -35,7 +35,7 @@ StandsBefore p local place = (nearer : ℕ) × (nearer < place) × StandsAt p lo
 
 -- What a next delivery owes each line with a message of the class that can be moved.
 pub record ServesInTurn (old : PartsView) (class : Class) (answer : Delivery Pick) (new : PartsView) : Type 0 where
-  -- it stands in the ring
+  -- it is in the ring
   pub stands : (local : Local) → local.0 < old.view.lines.lines → CanMove old.view class local
       → (place : ℕ) × StandsAt old local place
   -- and is taken from, or comes nearer to the front

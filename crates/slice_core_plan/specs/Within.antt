@@ -12,7 +12,7 @@ use Rattle.writeback_buffer.specs.Buffer.{held_at as buffer_at}
 abbrev pub HasCopy : CoreCacheView → Local → Type 0
 HasCopy cache local = IsSome (array_at cache.array local) ⊎ IsSome (buffer_at cache.buffer.write_backs local.0)
 
--- the copy stands in this way of its set
+-- the copy is in this way of its set
 abbrev pub StandsAt : CoreCacheView → Local → ℕ → Type 0
 StandsAt cache local way = position (holds local) (slots_at cache.array local) ≡ Some way
 

@@ -42,7 +42,7 @@ pub struct ForwardedStep {
     pub requester: CoreId,
 }
 
-/// The next state of a core's copy, which stands in this way of its set.
+/// The next state of a core's copy, which is in this way of its set.
 #[derive(Clone, Copy, Debug, PartialEq, Eq)]
 pub struct CopyStep {
     pub way: usize,

@@ -7,7 +7,7 @@ ghost use Rattle.slice_core_plan.specs.Turn.{PassOver, StandsAt};
 ghost use Rattle.slice_queues_message.specs.declared.channel.Class.{Class};
 ghost use Rattle.slice_queues_message.specs.declared.channel.Pick.{Pick};
 
-/// A line with messages that can be moved is passed over by no more next deliveries than lines stand in front of it.
+/// A line with messages that can be moved is passed over by no more next deliveries than lines are in front of it.
 pub fn lines_are_served_in_turn()
     ensures { (local : Local) (class : Class) (old : PartsView) (answers : List (Delivery Pick))
         (new : PartsView) (place : ℕ)

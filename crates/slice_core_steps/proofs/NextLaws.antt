@@ -294,7 +294,7 @@ none-left : (left : List Channel) → None ≡ slice_get left 0 → left ≡ []
 none-left [] e = refl
 none-left (first ∷ rest) e = cc
 
--- behind the last channel
+-- after the last channel
 pub next-ends : (v : View) (local : Local) (class : Class) (next : Delivery (Local × Channel)) (left : List Channel)
     → IsNextOf v local class next left → None ≡ slice_get left 0 → IsNextAt v local class next
 next-ends v local class next left so_far end =
@@ -400,7 +400,7 @@ ring-moves v class one local at there is found = ((λ other third within of_clas
     by_met (inl none) = inl none
     by_met (inr some) = inr (local, some.0, there, some.1, some.2)
 
--- one more line, as it stands in the ring
+-- one more line, as it is in the ring
 pub ring-more_at : (v : View) (class : Class) (next one after_next : Delivery (Local × Channel)) (ring : List ℕ) (index : ℕ) (local : Local)
     → index < length ring → local.0 ≡ get_or ring index 0 → local.0 < v.lines.lines
     → IsNextSoFar v class next (drop index ring) → IsNextAt v local class one → after_next ≡ better_of next one

@@ -60,7 +60,7 @@ or-still deliveries.Nothing (deliveries.Broken b) still rests = refl
 or-still deliveries.Nothing deliveries.Blocked still rests = refl
 or-still deliveries.Nothing deliveries.Nothing still rests = refl
 
--- what moves is better than what doesn't, and no worse than what comes behind it
+-- what moves is better than what doesn't, and no worse than what comes after it
 pub or-moves : (one other third : Delivery (Local × Channel)) → is_move one ≡ false → is_move other ≡ true
     → better_of one (better_of other third) ≡ other
 or-moves (deliveries.Moved at) other third still moves = cc

@@ -45,7 +45,7 @@ one_ack : (waits : Bool) → length (ack_messages waits) ≤ 1
 one_ack true = omega arith
 one_ack false = omega arith
 
--- Of an Inv, a forwarded request and a Put-Ack two wait at most, where behind an Inv only one of the others does.
+-- Of an Inv, a forwarded request and a Put-Ack two wait at most, where after an Inv only one of the others does.
 two_forwarded : (inv : Bool) (owes_to : ℕ) (asked : Forward) (names : ℕ) (put_ack : Bool)
     → (inv ≡ true → (is_no_forward asked || not put_ack) ≡ true)
     → length (map messages.Forwarded

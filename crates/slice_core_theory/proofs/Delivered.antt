@@ -196,7 +196,7 @@ module _ (old new : PartsView) (accounted : IsAccounted old.view) (whole : IsWho
   done_performs deliveries.Blocked done = unchanged done
   done_performs (deliveries.Broken cell) done = unchanged done
 
--- .. and the turn of the ring behind it shows nothing.
+-- .. and the turn of the ring after it shows nothing.
 pub deliver_next_performs : (old new : PartsView) → IsAccounted old.view → IsWhole old.view
     → IsLegal (initially old.view.init) new.view.log → (class : Class) (answer : Delivery Pick)
     → AfterDeliverNext old class answer new → Performs old.view new.view

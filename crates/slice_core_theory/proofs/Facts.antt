@@ -71,7 +71,7 @@ module _ (exclusive : Bool) (cores : ℕ) (line : Line) (some : 0 < cores) (most
   pub inv_without_ack : (line.part c).look.inv ≡ true → (line.part c).look.sent ≡ false
   inv_without_ack waits = not-at _ (passes (λ l. l.inv) (λ l. not l.sent) no_inv_with_ack waits)
 
-  -- Behind an Inv waits a forwarded request or a Put-Ack, and never both.
+  -- After an Inv waits a forwarded request or a Put-Ack, and never both.
   pub inv_before_one : (line.part c).look.inv ≡ true
       → (is_no_forward (line.part c).look.forward || not (line.part c).look.put_ack) ≡ true
   inv_before_one waits = passes (λ l. l.inv) (λ l. is_no_forward l.forward || not l.put_ack) inv_with_one waits

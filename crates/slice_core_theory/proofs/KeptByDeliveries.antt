@@ -140,7 +140,7 @@ module _ (Whole Fact : View → Type 0) (steps : KeepsMessages Whole Fact) (old 
   done_keeps deliveries.Blocked done = unchanged done
   done_keeps (deliveries.Broken cell) done = unchanged done
 
--- .. and the turn of the ring behind it.
+-- .. and the turn of the ring after it.
 pub deliver_next_keeps : (Whole Fact : View → Type 0) (steps : KeepsMessages Whole Fact) (old new : PartsView)
     → IsWhole old.view → Whole old.view → Fact old.view → (class : Class) (answer : Delivery Pick)
     → AfterDeliverNext old class answer new → Fact new.view

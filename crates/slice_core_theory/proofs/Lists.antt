@@ -65,7 +65,7 @@ module _ {X : Type 0} where
       let later = count_by-all xs in
       omega (arith, more, later)
 
-  -- What a list has at a place it still has with more elements behind.
+  -- What a list has at a place it still has with more elements after.
   pub slice_get-kept : (xs ys : List X) (k : ℕ) (x : X) → slice_get xs k ≡ Some x → slice_get (xs ++ ys) k ≡ Some x
   slice_get-kept [] ys k x h = cc
   slice_get-kept (z ∷ zs) ys zero x h = h

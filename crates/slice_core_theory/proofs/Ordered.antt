@@ -1,4 +1,4 @@
--- A log stays ordered where a core's targets are performed, since each line's targets stand in the order of their
+-- A log stays ordered where a core's targets are performed, since each line's targets are in the order of their
 -- numbers.
 use Rattle.std.proofs.Common.{◌≡◌, ℕ, ◌+◌, ◌/◌, ◌*◌, ◌<◌, ◌≤◌, List, [], ◌∷◌, ◌++◌, length, ap, ◌∙◌, arith}
 use Rattle.std.proofs.Common.{append_assoc, append-nil}

@@ -196,7 +196,7 @@ first_of_slots false fwd_get_m put_ack part (forwarded_messages.FwdGetM core) i 
 first_of_slots false no_forward true part forwarded_messages.PutAck i f p e = (i, f, p)
 first_of_slots _ _ _ part _ i f p e = absurd (cc e)
 
--- The oldest message of the channel is the first that stands in the slots.
+-- The oldest message of the channel is the first that is in the slots.
 pub first_stands : (copy : CacheCopy) (mail : CoreChannels) (part : Part) (message : ForwardedMessage)
     → slice_get mail.forwarded 0 ≡ Some message → PartStands copy mail part → IsFirst message part
 first_stands copy mail part message is stands =

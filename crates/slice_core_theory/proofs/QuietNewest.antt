@@ -56,7 +56,7 @@ empty_queue false no_forward true owes_to names none = absurd (cc none)
 empty_queue false no_forward false owes_to names none =
     record { inv_is = refl; asked_is = refl; put_ack_is = refl }
 
--- A copy that stands in the array doesn't leave.
+-- A copy that is in the array doesn't leave.
 held_stays : (state : CopyState) → stands_in_array state ≡ true → is_leaving state ≡ false
 held_stays copy_states.I stands = cc
 held_stays _ stands = cc

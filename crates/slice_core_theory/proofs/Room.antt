@@ -59,7 +59,7 @@ no_request_waits (Some request_messages.GetM) none = absurd (true≢false (sym n
 no_request_waits (Some request_messages.PutS) none = absurd (true≢false (sym none))
 no_request_waits (Some (request_messages.PutM block)) none = absurd (true≢false (sym none))
 
--- One more message finds room behind these slots.
+-- One more message finds room after these slots.
 short_slots : (inv : Bool) (asked : Forward) (put_ack : Bool) (owes_to names : ℕ)
     → (not put_ack && not (inv && not (is_no_forward asked))) ≡ true
     → length (queued_inv inv owes_to ++ (queued_forward asked names ++ queued_put_ack put_ack)) < 2

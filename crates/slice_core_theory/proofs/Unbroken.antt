@@ -333,7 +333,7 @@ module _ (v : View) (local : Local) (shaped : IsShaped v) (inside : local.0 < v.
         below (ap is_no_data kind)) in
         rw (kind, eq-eqb acks (l.part core.0).wants named, eq-eqb copy.counted (l.part core.0).counted counts) refl
 
-    -- Where a copy waits, it stands in its array.
+    -- Where a copy waits, it is in its array.
     stands_there : is_waiting copy.state ≡ true → (way : ℕ) × (stands_at v local core ≡ Some way)
     unfolding copy
     stands_there waits = by (stands_at v local core) refl

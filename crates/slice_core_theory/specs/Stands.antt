@@ -1,4 +1,4 @@
--- When a line of a slice is a line of the protocol's machine: what stands in the one stands in the other, part by part.
+-- When a line of a slice is a line of the protocol's machine: what is in the one is in the other, part by part.
 use Rattle.std.specs.Prelude.{◌≡◌, ℕ, ◌<◌, Bool, true, false, List, [], ◌∷◌, ◌++◌, length, Option, Some, None, is_some}
 use Rattle.std.specs.Prelude.{IfSome}
 use Rattle.address_map.specs.CoreSet.{has}

@@ -5,7 +5,7 @@ use Rattle.std.specs.List.{slice_get}
 use Rattle.std.proofs.Output.{writes_in_calls_append}
 use Rattle.json_text.specs.List.{before_text, with_commas_from}
 
--- the first of a list that is gone through from its front, and then those behind it
+-- the first of a list that is gone through from its front, and then those after it
 pub first_text : {W X : Type 0} (took : W → List ℕ → W → Type 0) (text : X → List ℕ) (first : Bool) (left rest : List X)
     (x : X) → Some x ≡ slice_get left 0 → rest ≡ drop 1 left
     → (old mid new last : W) → WritesInCalls took old (before_text first) mid → WritesInCalls took mid (text x) new

@@ -28,7 +28,7 @@ text_of_mail v line None = codes "}"
 text_of_mail v line (Some local) =
     codes ",\"messages\":" ++ (list_of_messages v line (line_waiting (channels_at v local)) ++ codes "}")
 
--- a line with this entry, and behind it this text
+-- a line with this entry, and after it this text
 abbrev pub text_with : LineAddr → DirEntry → List ℕ → List ℕ
 text_with line entry mail =
     text_of_entry line entry.state entry.owner

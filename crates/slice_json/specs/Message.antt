@@ -83,7 +83,7 @@ abbrev pub text_of_front : Channel → Option Message → Delivery Transition �
 text_of_front channel None plan = codes "null"
 text_of_front channel (Some message) plan = text_of_message channel message plan
 
--- what stands in front of a channel of a line
+-- what is in front of a channel of a line
 abbrev pub text_at : View → LineAddr → Channel → List ℕ
 text_at v line channel =
     let pick = pick_at line channel in

@@ -37,7 +37,7 @@ EachTakes requester [] line = Unit {0}
 EachTakes requester (core ∷ cores) line =
     TakesForwarded line core × EachTakes requester cores (after_one requester line core)
 
--- a core that is behind those that got it has what it had
+-- a core that is after those that got it has what it had
 core-unreached : (set : ℕ) (requester : CoreId) (n from : ℕ) (line : LineChannels) (core : ℕ) → core < from →
     core_at (after_each requester (filter (has set) (range_with_len from n)) line) core ≡ core_at line core
 core-unreached set requester zero from line core before = refl
@@ -219,7 +219,7 @@ unfolding members
 EachTakes-members set requester line takes =
     EachTakes-range set requester 64 0 line (λ core from there. takes (record { 0 = core }) there)
 
--- a core of the set got the Inv behind what waited, and any other core has what it had
+-- a core of the set got the Inv after what waited, and any other core has what it had
 pub core_at-after_invalidating : (line : LineChannels) (set : ℕ) (requester : CoreId) (core : ℕ) →
     core < length line.cores →
     core_at (after_invalidating line set requester) core

@@ -11,7 +11,7 @@ use Rattle.slice_queues.specs.Line.{LineChannels, empty_line}
 use Rattle.slice_queues.specs.Ring.{QueuesView, is_listed, with_listed}
 use Rattle.slice_queues.specs.Slice.{at_local}
 
--- a line that came into a list stands in it
+-- a line that came into a list is in it
 pub is_listed-with_listed : (order : List ℕ) (local : ℕ) → is_listed (with_listed order local) local ≡ true
 is_listed-with_listed order local = by_test (is_listed order local) refl
   where
@@ -21,7 +21,7 @@ is_listed-with_listed order local = by_test (is_listed order local) refl
     by_test false away =
         list_any-append (eqb local) order (local ∷ []) ∙ rw (eq-eqb local local refl) (or-true _)
 
--- a line that stands in a list comes into it no second time
+-- a line that is in a list comes into it no second time
 pub with_listed-there : (order : List ℕ) (local : ℕ) → is_listed order local ≡ true → with_listed order local ≡ order
 with_listed-there order local there = rw there refl
 

@@ -209,7 +209,7 @@ home_alone line home (channels.Data d) ne = refl
 home_alone line home (channels.Ack to from) ne = refl
 home_alone line home channels.Home ne = absurd (ne refl)
 
--- what is sent waits behind the others of its channel, and no other channel changes
+-- what is sent waits after the others of its channel, and no other channel changes
 pub sends_only : (line : LineChannels) (channel : Channel) (message : Message) →
     HasChannel line channel → HasRoom line channel → Carries channel message → is_from_core channel ≡ true →
     SendsOnly line (after_send line channel message) channel message

@@ -88,7 +88,7 @@ count-one pick slice slices at number only (line ∷ rest) place (suc behind) he
     (count-one pick slice slices at number only rest (place + 1) behind (omega arith))
     (zero-add _)
 
--- a run of lines is its first lines and those behind them
+-- a run of lines is its first lines and those after them
 lines_waiting-split : (slice slices : ℕ) (n : ℕ) (lines : List LineChannels) (place : ℕ) →
     lines_waiting slice slices place lines
     ≡ lines_waiting slice slices place (take n lines) ++ lines_waiting slice slices (place + n) (drop n lines)
@@ -177,7 +177,7 @@ pub nil-from_get : {A : Type 0} (xs : List A) → slice_get xs 0 ≡ None → xs
 nil-from_get [] e = refl
 nil-from_get (x ∷ xs) e = cc
 
--- all lines, and none behind them
+-- all lines, and none after them
 pub all_lines : (slice slices : ℕ) (lines : List LineChannels) →
     lines_waiting slice slices 0 (drop 0 (take (length lines) lines))
     ++ lines_waiting slice slices 0 (drop 0 (take 0 lines))

@@ -204,7 +204,7 @@ pub left-round : (order : List ℕ) (listed : List Bool) (capacity first : ℕ) 
 left-round order listed capacity first at_front round =
     IsRound-leave first (drop 1 order) listed capacity (in_front order listed capacity first at_front round)
 
--- what is got from a list stands in it
+-- what is got from a list is in it
 pub listed-get : (order : List ℕ) (index local : ℕ) → slice_get order index ≡ Some local → is_listed order local ≡ true
 listed-get [] index local e = cc
 listed-get (line ∷ order) zero local e = let same : local ≡ line = cc in rw (eq-eqb local line same) refl

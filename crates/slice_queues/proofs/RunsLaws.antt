@@ -54,7 +54,7 @@ run-set_other width first place cores new apart =
           | inr past ↦ past
         ]
 
--- a run keeps what it had as more come behind it
+-- a run keeps what it had as more come after it
 run-append : (width first : ℕ) (cores more : List CoreChannels) → first + width ≤ length cores →
     take width (drop first (cores ++ more)) ≡ take width (drop first cores)
 run-append width first cores more within =
@@ -110,7 +110,7 @@ of-each P heads local head there here others other =
           (others other differs)
     ]
 
--- a head that a line could get, and the runs with one more behind them
+-- a head that a line could get, and the runs with one more after them
 abbrev opened_head : List LineHead → List CoreChannels → ℕ → LineHead
 opened_head heads cores local = record (head_at heads local) { first = length cores }
 

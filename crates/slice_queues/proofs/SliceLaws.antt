@@ -99,7 +99,7 @@ messages_in-with_line_other queues pick new there alone other ne = by_slice (is_
     by_slice true here = rw here (same_messages here)
     by_slice false here = rw here refl
 
--- what is sent waits behind the others at its pick, and no other pick changes
+-- what is sent waits after the others at its pick, and no other pick changes
 pub sends_only_in : (queues : SliceChannels) (pick : Pick) (message : Message) →
     HasLine queues (line_of pick) →
     SendsOnly (line_at queues (line_of pick)) (after_send (line_at queues (line_of pick)) (channel_of pick) message)

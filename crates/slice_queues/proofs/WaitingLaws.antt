@@ -95,7 +95,7 @@ filter-line p line h d a f r of_home of_data of_acks of_forwarded of_requests =
     requests : List Channel
     requests = map req_of (cores_where has_request line)
 
--- a filter of a longer range by a test that says the same, and passes nothing behind the shorter one
+-- a filter of a longer range by a test that says the same, and passes nothing after the shorter one
 filter-longer : (p q : ℕ → Bool) (m n a : ℕ) → n ≤ m → ((i : ℕ) → p i ≡ q i) →
     ((i : ℕ) → a + n ≤ i → q i ≡ false) → filter p (range_with_len a m) ≡ filter q (range_with_len a n)
 filter-longer p q zero zero a few same none = refl

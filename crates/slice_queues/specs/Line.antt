@@ -122,7 +122,7 @@ Carries (channels.Ack to from) messages.InvAck = Unit {0}
 Carries channels.Home (messages.Home block) = Unit {0}
 Carries channel message = ⊥
 
--- the line once the message is sent: it waits behind the others of its channel
+-- the line once the message is sent: it waits after the others of its channel
 abbrev pub after_send : LineChannels → Channel → Message → LineChannels
 after_send line (channels.Req core) (messages.Request message) =
     with_core line core.0 (record (core_at line core.0) { request = Some message })
@@ -159,7 +159,7 @@ after_take line (channels.Ack to from) =
     (record (core_at line to.0) { acks = without (core_at line to.0).acks from.0 })
 after_take line channels.Home = record line { home = None }
 
--- the message went behind those of its channel, and the other channels have what they had
+-- the message went after those of its channel, and the other channels have what they had
 pub record SendsOnly (old new : LineChannels) (channel : Channel) (message : Message) : Type 0 where
   pub appended : messages_at new channel ≡ messages_at old channel ++ message ∷ []
   pub others : (other : Channel) → other ≢ channel → messages_at new other ≡ messages_at old other
@@ -189,7 +189,7 @@ abbrev pub with_invalidation : CoreId → CoreChannels → CoreChannels
 with_invalidation requester core =
     record core { forwarded = core.forwarded ++ forwarded_messages.Inv requester ∷ [] }
 
--- the line once an Inv that names the requester went to each core of the set, behind what waits there
+-- the line once an Inv that names the requester went to each core of the set, after what waits there
 abbrev pub after_invalidating : LineChannels → ℕ → CoreId → LineChannels
 after_invalidating line cores requester =
     record line {

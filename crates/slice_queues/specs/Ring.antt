@@ -6,11 +6,11 @@ use Rattle.address_map.specs.Locator.{Lines, IsOfMachine}
 use Rattle.slice_queues.specs.Line.{LineChannels, has_mail, empty_line}
 use Rattle.slice_queues.specs.Slice.{SliceChannels, at_local}
 
--- the line stands in the list
+-- the line is in the list
 abbrev pub is_listed : List ℕ → ℕ → Bool
 is_listed lines local = list_any (eqb local) lines
 
--- the list with the line at its end, unless it stands there
+-- the list with the line at its end, unless it is there
 abbrev pub with_listed : List ℕ → ℕ → List ℕ
 with_listed lines local = if is_listed lines local then lines else lines ++ local ∷ []
 
@@ -24,7 +24,7 @@ pub record LineOrder : Type 0 where
   pub order : List ℕ
   pub lines : ℕ
 
--- the flags tell which lines stand in the round, none twice, and there is room for every line
+-- the flags tell which lines are in the round, none twice, and there is room for every line
 pub record IsRound (order : List ℕ) (listed : List Bool) (capacity : ℕ) : Type 0 where
   pub once : IsDistinct eqb order
   pub flags : (local : ℕ) → slice_index_or listed local false ≡ is_listed order local
@@ -39,7 +39,7 @@ pub record QueuesView : Type 0 where
 abbrev pub has_mail_at : SliceChannels → ℕ → Bool
 has_mail_at queues local = has_mail (at_local queues local)
 
--- each line with a message stands in the ring, each line at most once, and no line that isn't there
+-- each line with a message is in the ring, each line at most once, and no line that isn't there
 pub record IsRing (queues : QueuesView) : Type 0 where
   pub mail : (local : ℕ) → has_mail_at queues.channels local ≡ true → is_listed queues.ring local ≡ true
   pub order : IsOrder queues.ring (length queues.channels.lines)

@@ -29,7 +29,7 @@ line_under width cores head = record { cores = run_under width cores head; home 
 abbrev pub lines_under : ℕ → List CoreChannels → List LineHead → List LineChannels
 lines_under width cores = map (line_under width cores)
 
--- where a line's own run begins: behind the others, where it gets it only now
+-- where a line's own run begins: after the others, where it gets it only now
 abbrev pub opened_first : LineHead → List CoreChannels → ℕ
 opened_first head cores = if has_run head then head.first else length cores
 

@@ -71,7 +71,7 @@ after_take_in queues pick =
     else
     queues
 
--- the message went behind those at the pick, and all other picks have what they had
+-- the message went after those at the pick, and all other picks have what they had
 pub record SendsOnlyIn (old new : SliceChannels) (pick : Pick) (message : Message) : Type 0 where
   pub appended : messages_in new pick ≡ messages_in old pick ++ message ∷ []
   pub others : (other : Pick) → other ≢ pick → messages_in new other ≡ messages_in old other

@@ -140,7 +140,7 @@ pub record IsAddressedFrom (place lines slice slices : ℕ) : Type 0 where
   pub one_of_them : slice < slices
   pub in_range : (place + lines) * slices < 2 ^ 64
 
--- the picks with a message: those of the start line first, then those of the lines behind it, and at last those of the
+-- the picks with a message: those of the start line first, then those of the lines after it, and at last those of the
 -- lines before it
 abbrev pub picks_waiting : SliceChannels → LineAddr → List Pick
 picks_waiting queues start =

@@ -9,7 +9,7 @@
 //! - [`Queues::line`] gives the channels of one line to be looked at: [`LineQueues::front`] the oldest message of a
 //!   channel, and the calls for one kind of channel, as [`LineQueues::front_request`], references, so that no block is
 //!   copied.
-//! - [`Queues::send_at`] puts a message behind those of its channel, [`Queues::drop_at`] takes the oldest without a
+//! - [`Queues::send_at`] puts a message after those of its channel, [`Queues::drop_at`] takes the oldest without a
 //!   copy, and no other channel changes (`SendsOnly`, `TakesOnly`). [`Queues::invalidate`] sends an invalidation to
 //!   each core of a set.
 //! - [`LineQueues::waiting`] goes through the channels in which a message waits, each once and no other
@@ -17,7 +17,7 @@
 //!   is often blocked until they moved. [`LineQueues::left_in`] gives the same channels as [`ChannelsLeft`], which
 //!   doesn't borrow the line: whoever takes a message stops there, and whoever doesn't asks for the next.
 //! - [`Queues`] holds the lines of a slice, by their places in it, and a ring of lines (specs/Ring.antt). Every line
-//!   with a message stands in the ring, and none twice ([`Queues::ring_len`] says so, `IsRing`).
+//!   with a message is in the ring, and none twice ([`Queues::ring_len`] says so, `IsRing`).
 //!   What changes a line brings it into the ring (`with_lent`), so whatever is sent, that holds.
 //!   [`Queues::rotate`] sends the front lines with messages to the back, and the others out of the ring.
 //! - The calls of [`Queues`] that take a pick say of the slice what those of a line say of a line (specs/Slice.antt). A

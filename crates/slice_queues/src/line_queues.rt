@@ -84,7 +84,7 @@ impl<'a> LineQueues<'a> {
         ChannelsLeft::new(self.cores, self.head.mail.of_class(class), home)
     }
 
-    /// The next of the channels that are left, `None` behind the last.
+    /// The next of the channels that are left, `None` after the last.
     pub fn next_left(&self, left: &mut ChannelsLeft) -> Option<Channel>
         requires { AreCores self.now.cores left.old.acks.receivers }
         ensures first { result ≡ slice_get (channels_left left.old self.now.cores) 0 }

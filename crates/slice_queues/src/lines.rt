@@ -31,7 +31,7 @@ pub struct LineHead {
 pub struct Lines {
     heads: BoxedSlice<LineHead>,
     // Runs of `width` cores' channels. The first one is blank and stays so: it stands for each line to which nothing
-    // was ever sent. Behind it stand the runs of the other lines, in the order in which they got them. There is room
+    // was ever sent. After it stand the runs of the other lines, in the order in which they got them. There is room
     // for a run of each line, and what isn't used of it is never touched.
     cores: Vec<CoreQueues>,
     width: usize,
@@ -211,7 +211,7 @@ impl Lines {
         LineQueues { head, cores: run }
     }
 
-    /// Sends the message on a channel of the line, behind those that wait there.
+    /// Sends the message on a channel of the line, after those that wait there.
     #[inline(always)]
     pub fn send(&mut self, local: Local, channel: Channel, message: Message)
         requires line { local.0 < length self.old }
@@ -311,7 +311,7 @@ impl Lines {
         front
     }
 
-    /// Sends an invalidation for the requester to each of these cores, behind what waits there.
+    /// Sends an invalidation for the requester to each of these cores, after what waits there.
     pub fn invalidate(&mut self, local: Local, cores: CoreSet, requester: CoreId)
         requires line { local.0 < length self.old }
         requires takes { TakesInvalidations (slice_index_or self.old local.0 (empty_line 0)) cores }

@@ -12,7 +12,7 @@ pub struct LinesWaiting<'a> {
     lines: &'a Lines,
     current: LineWaiting<'a>,
     line: LineAddr,
-    // the lines that are left: from this place to that behind the last
+    // the lines that are left: from this place to that after the last
     place: usize,
     end: usize,
     slice: u8,
@@ -54,7 +54,7 @@ impl<'a> LinesWaiting<'a> {
         }
     }
 
-    /// The next pick, `None` behind the last.
+    /// The next pick, `None` after the last.
     pub fn next(&mut self) -> Option<Pick>
         ensures first { result ≡ slice_get self.old 0 }
         ensures rest { self.new ≡ drop 1 self.old }
@@ -74,7 +74,7 @@ impl<'a> LinesWaiting<'a> {
     }
 }
 
-/// The picks with a message: of the start line, then of the lines behind it, and at last of the lines before it.
+/// The picks with a message: of the start line, then of the lines after it, and at last of the lines before it.
 #[derive(Drop)]
 pub struct Picks<'a> {
     from_start: LinesWaiting<'a>,
@@ -100,7 +100,7 @@ impl<'a> Picks<'a> {
         }
     }
 
-    /// The next pick, `None` behind the last.
+    /// The next pick, `None` after the last.
     pub fn next(&mut self) -> Option<Pick>
         ensures first { result ≡ slice_get self.old 0 }
         ensures rest { self.new ≡ drop 1 self.old }

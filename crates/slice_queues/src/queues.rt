@@ -99,7 +99,7 @@ impl Queues {
         self.ring.list(local);
     }
 
-    /// Sends the message on a channel of the line, behind those that wait there. The line comes into the ring.
+    /// Sends the message on a channel of the line, after those that wait there. The line comes into the ring.
     #[inline(always)]
     pub fn send_at(&mut self, local: Local, channel: Channel, message: Message)
         requires line { local.0 < length self.old.channels.lines }
@@ -126,7 +126,7 @@ impl Queues {
         self.lines.drop_front(local, channel);
     }
 
-    /// Sends an invalidation for the requester to each of these cores, behind what waits there. The line comes into
+    /// Sends an invalidation for the requester to each of these cores, after what waits there. The line comes into
     /// the ring.
     pub fn invalidate(&mut self, local: Local, cores: CoreSet, requester: CoreId)
         requires line { local.0 < length self.old.channels.lines }
@@ -226,7 +226,7 @@ impl Queues {
         }
     }
 
-    /// Sends the message at the pick, behind those that wait there. Its line comes into the ring.
+    /// Sends the message at the pick, after those that wait there. Its line comes into the ring.
     pub fn send(&mut self, pick: Pick, message: Message)
         requires there { HasPick self.old.channels pick }
         requires room { HasRoomIn self.old.channels pick }
@@ -269,7 +269,7 @@ impl Queues {
         self.lines.take(local, channel)
     }
 
-    /// The picks with a message, each once and no other: those of the start line first, then those of the lines behind
+    /// The picks with a message, each once and no other: those of the start line first, then those of the lines after
     /// it, and at last those of the lines before it. Within a line they come kind by kind. It takes no memory.
     pub fn picks_from(&self, start: LineAddr) -> Picks<'_>
         requires { HasLine self.now.channels start }
@@ -284,7 +284,7 @@ impl Queues {
             LinesWaiting::new(&self.lines, 0, place, slice, slices),
         )
     }
-    /// The picks with a message, each once and no other, where the lines stand in the memory as the locator says: from
+    /// The picks with a message, each once and no other, where the lines are in the memory as the locator says: from
     /// the first line to the last, within a line kind by kind. It takes no memory.
     pub fn picks_of(&self, own: Locator) -> Picks<'_>
         requires { own.lines ≡ length self.now.channels.lines }

@@ -10,7 +10,7 @@ use std::marker::Model;
 #[derive(Drop)]
 pub struct LineRing {
     order: HeapCircularBuffer<usize>,
-    // whether a line stands in the round, by its place
+    // whether a line is in the round, by its place
     listed: BoxedSlice<bool>,
 }
 
@@ -71,7 +71,7 @@ impl LineRing {
         }
     }
 
-    /// Puts the line at the end, unless it stands in the round.
+    /// Puts the line at the end, unless it is in the round.
     #[inline(always)]
     pub fn list(&mut self, local: Local)
         requires { local.0 < self.old.lines }

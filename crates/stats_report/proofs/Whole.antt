@@ -5,7 +5,7 @@ use Rattle.stats_report.specs.declared.column.Column.{Column}
 use Rattle.stats_report.specs.Column.{columns_of}
 use Rattle.stats_report.specs.Report.{AreAlike, heading_of, core_lines, message_line, message_totals, report_of}
 
--- three pieces, one behind the other
+-- three pieces, one after the other
 three : (a b c text heading_text lines_text : List ℕ) → heading_text ≡ [] ++ a → lines_text ≡ heading_text ++ b
     → text ≡ lines_text ++ c → text ≡ a ++ (b ++ (c ++ []))
 three a b c text heading_text lines_text first second third =

@@ -1,4 +1,4 @@
--- The columns of the report behind the core's number.
+-- The columns of the report after the core's number.
 use Rattle.std.specs.Prelude.{ℕ, Bool, List, [], ◌∷◌, codes, if◌then◌else◌, slice_index}
 use Rattle.slice_answer.specs.declared.answer.Stall.TheVariants.{NoRegister, NoTarget, NoWay, WriteBackFull}
 use Rattle.slice_answer.specs.declared.answer.Stall.TheVariants.{WriteBackBusy}

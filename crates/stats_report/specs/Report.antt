@@ -76,7 +76,7 @@ abbrev pub heading_of : List Column → List ℕ
 heading_of columns =
     concat (codes "      core" ∷ flat_map (λ column. right_in_10 (name_of column)) columns ∷ codes "\n" ∷ [])
 
--- what stands in a core's line and a column
+-- what is in a core's line and a column
 abbrev pub cell_of : List StatsView → ℕ → Column → List ℕ
 cell_of slices core column = right_in_10 (decimal (core_total slices core column))
 

@@ -3,7 +3,7 @@ ghost use Rattle.stats_report.specs.Column.{name_of, count_in, columns_of};
 
 use slice_answer::{CoreStats, Stall};
 
-/// A column of the report behind the core's number, by what it counts.
+/// A column of the report after the core's number, by what it counts.
 #[derive(Clone, Copy, Debug, PartialEq, Eq)]
 pub enum Column {
     Hits,

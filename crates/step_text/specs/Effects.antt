@@ -65,7 +65,7 @@ text_of_dir_sends core (dir_sends.FwdGetS owner) = codes "; sends Fwd-GetS to co
 text_of_dir_sends core (dir_sends.FwdGetM owner) = codes "; sends Fwd-GetM to core " ++ decimal owner.0
 text_of_dir_sends core dir_sends.PutAck = codes "; sends Put-Ack to core " ++ decimal core.0
 
--- a block on its way home, behind another message
+-- a block on its way home, after another message
 abbrev pub text_of_block : ℕ → List ℕ
 text_of_block slice = codes ", Data home to dir " ++ decimal slice
 

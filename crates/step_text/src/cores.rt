@@ -25,7 +25,7 @@ impl fmt::Display for Cores {
     }
 }
 
-/// An invalidation to each core of a set, behind another message.
+/// An invalidation to each core of a set, after another message.
 #[derive(Clone, Copy)]
 pub struct Invalidations(pub CoreSet);
 

@@ -103,7 +103,7 @@ impl fmt::Display for FromCore {
     }
 }
 
-/// A block on its way home to the directory of a slice, behind another message.
+/// A block on its way home to the directory of a slice, after another message.
 #[derive(Clone, Copy)]
 struct BlockHome(usize);
 

@@ -145,7 +145,7 @@ const fn shortage(stall: Stall) -> &'static str
 }
 
 /// An eviction that a core asked for: the case that it meets, its answer, and the copy's state and the message that is
-/// sent behind it.
+/// sent after it.
 #[derive(Clone, Copy)]
 pub struct Eviction {
     pub slice: usize,

@@ -1,4 +1,4 @@
--- The loads in front of the first write are loads, and a write stands behind them.
+-- The loads in front of the first write are loads, and a write follows them.
 use Rattle.std.proofs.Common.{◌≡◌, List, [], ◌∷◌, sym, ⊎_elim, arith, suc, ◌+◌, take-append-drop}
 use Rattle.std.specs.Prelude.{All, IsTrue}
 use Rattle.std.specs.List.{prefix_len}

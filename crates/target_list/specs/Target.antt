@@ -21,7 +21,7 @@ no_target = record { op = ops.Load; seq = 0; since = 0; offset = record { 0 = 0 
 abbrev pub front_loads : List Target → List Target
 front_loads targets = take_while is_load targets
 
--- the first target that writes, and all behind it
+-- the first target that writes, and all after it
 abbrev pub behind_loads : List Target → List Target
 behind_loads targets = drop (prefix_len is_load targets) targets
 

@@ -78,7 +78,7 @@ impl TargetList {
         count_front_loads(self.as_slice())
     }
 
-    /// Adds a target behind the others.
+    /// Adds a target after the others.
     // A target that is handed on through memory is read back before it is written.
     #[inline(always)]
     pub fn push(&mut self, target: Target)

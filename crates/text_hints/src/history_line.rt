@@ -26,7 +26,7 @@ const SIZES: Sizes = Sizes {
     lines: MOST_WORDS / 8,
 };
 
-/// The places behind a word that a line of a history begins with.
+/// The places after a word that a line of a history begins with.
 pub(super) fn history_places(name: &[u8]) -> Option<&'static [Place]> {
     match name {
         b"init" => Some(&[Place::Word, Place::Number]),
@@ -35,7 +35,7 @@ pub(super) fn history_places(name: &[u8]) -> Option<&'static [Place]> {
     }
 }
 
-/// The places behind the name of an access: the word, what else it takes, and the reply, but of a store.
+/// The places after the name of an access: the word, what else it takes, and the reply, but of a store.
 pub(super) fn history_access_places(name: &[u8]) -> Option<&'static [Place]> {
     match name {
         b"load" | b"store" => Some(&[Place::Word, Place::Number]),

@@ -60,7 +60,7 @@ fn wants_answer(input: &[u8], number: usize) -> bool {
     false
 }
 
-/// The kind of a text, unless the line with this number stands behind the first that doesn't configure.
+/// The kind of a text, unless the line with this number follows the first that doesn't configure.
 fn kind_up_to(input: &[u8], number: usize) -> Option<TextKind> {
     let mut first = None;
     for statement in Statements::of(input) {

@@ -1,4 +1,4 @@
-//! What a reader of an error may want to know: what could stand at a place, which line stands in the way, or which
+//! What a reader of an error may want to know: what could stand at a place, which line is in the way, or which
 //! command reads such a text.
 //!
 //! These are hints, and no contract says which: `tests/suite/hints.py` tries them.

@@ -1,11 +1,11 @@
-//! The word at which a line is wrong, and what could stand there or why it can't.
+//! The word at which a line is wrong, and what could be there or why it can't.
 
 use super::place::{Place, Sizes};
 use litmus_text::{ConfigLine, LineFault, Statement, Statements};
 use std::fmt;
 use std::str::from_utf8;
 
-/// A line at fault, with the text that it stands in.
+/// A line at fault, with the text that it is in.
 #[derive(Clone, Copy)]
 pub(super) struct WrongLine<'a, 'b> {
     pub input: &'a [u8],
@@ -48,7 +48,7 @@ pub(super) struct Head {
     pub name: &'static [u8],
     /// All of its forms, in words.
     pub forms: &'static str,
-    /// What stands behind the name, in words.
+    /// What follows the name, in words.
     pub numbers: &'static str,
 }
 

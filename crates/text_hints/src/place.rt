@@ -91,7 +91,7 @@ impl Sizes {
 }
 
 impl Place {
-    /// What stands behind a word, where it can stand here as far as this fault goes.
+    /// What follows a word, where it can stand here as far as this fault goes.
     pub(super) fn behind(
         self,
         rest: &'static [Place],

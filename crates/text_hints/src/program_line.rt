@@ -8,7 +8,7 @@ use litmus_text::{LineFault, Statement, Statements, parse_number};
 /// How deep blocks may stand in one another.
 const MOST_DEPTH: usize = 8;
 
-/// The places behind a word that a line begins with.
+/// The places after a word that a line begins with.
 pub(super) fn program_places(name: &[u8]) -> Option<&'static [Place]> {
     match name {
         b"outstanding" => Some(&[Place::Outstanding]),

@@ -15,7 +15,7 @@ const HEAD: Head = Head {
     numbers: "1 or 2",
 };
 
-/// The places behind a word that a line begins with, but `forbid`, whose words are judged by themselves.
+/// The places after a word that a line begins with, but `forbid`, whose words are judged by themselves.
 pub(super) fn test_places(name: &[u8]) -> Option<&'static [Place]> {
     match name {
         b"cas" => Some(&[Place::Word, Place::Number, Place::Number, Place::Reply]),
@@ -90,7 +90,7 @@ fn names_of(input: &[u8]) -> &'static [Place] {
     }
 }
 
-/// The first pair that is malformed, or the end where there is none, or what stands behind the last.
+/// The first pair that is malformed, or the end where there is none, or what follows the last.
 fn forbid_misfit<'a>(line: WrongLine<'a, '_>) -> Option<Misfit<'a>> {
     let wanted = Wanted::Text("NAME=VALUE");
     if line.words.len() < 2 {

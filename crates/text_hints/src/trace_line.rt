@@ -12,7 +12,7 @@ const HEAD: Head = Head {
     numbers: "1, 2 or no-since",
 };
 
-/// The places behind a word that a line begins with.
+/// The places after a word that a line begins with.
 pub(super) fn trace_places(name: &[u8]) -> Option<&'static [Place]> {
     match name {
         b"init" => Some(&[Place::Word, Place::Number]),
@@ -37,7 +37,7 @@ pub(super) fn bare_trace_places(name: &[u8]) -> Option<&'static [Place]> {
     }
 }
 
-/// The places behind the name of an access: the word, what else it takes, the reply and how long the log was.
+/// The places after the name of an access: the word, what else it takes, the reply and how long the log was.
 pub(super) fn access_places(name: &[u8]) -> Option<&'static [Place]> {
     match name {
         b"cas" => Some(&[

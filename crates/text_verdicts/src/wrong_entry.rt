@@ -54,7 +54,7 @@ enum Cause {
         last: Earlier,
         last_seq: u64,
     },
-    /// It was asked for when the log was longer than what stands before it.
+    /// It was asked for when the log was longer than what is before it.
     Since {
         since: u64,
         number: usize,
@@ -212,7 +212,7 @@ fn source_of(initial: Option<Initial>) -> Source {
     }
 }
 
-/// The reply that an entry has to give behind others, where its word begins with this value.
+/// The reply that an entry has to give after others, where its word begins with this value.
 fn expected_reply(initial: u64, before: &[Entry], entry: &Entry) -> u64
     ensures { result ≡ reply_of entry.now.op (value initial before.now entry.now.word.0) }
 {

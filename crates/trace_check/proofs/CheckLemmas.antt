@@ -25,7 +25,7 @@ use Rattle.trace_check.specs.TraceLine.{IsLineOf, cores_of}
 use Rattle.trace_check.specs.Trace.{AreLines, body_of, IsLastNamed, IsSoFar, HasRead, MayBegin, IsReading}
 use Rattle.trace_check.proofs.SeqLemmas.{slice_get-append, slice_get-last}
 
--- the first entry at fault stays so, whatever comes behind it
+-- the first entry at fault stays so, whatever comes after it
 still_illegal : (initial : ℕ → ℕ) (entries : List Entry) (e : Entry) (k : ℕ) (reason : Reason)
     → IsVerdict initial entries (verdicts.Illegal k reason)
     → IsVerdict initial (entries ++ e ∷ []) (verdicts.Illegal k reason)
@@ -37,7 +37,7 @@ still_illegal initial entries e k reason h =
     rw (take-append-le k entries (e ∷ []) (omega arith))
     (h.0, h.1, (x, slice_get-append entries (e ∷ []) k x at, h.2.2))
 
--- an entry at fault behind a log
+-- an entry at fault after a log
 first_illegal : (judge : Judge) (initial : ℕ → ℕ) (entries : List Entry) (e : Entry) (k : ℕ) (reason : Reason)
     → k ≡ length entries
     → Knows judge initial entries → IsWrong initial entries e reason

@@ -13,7 +13,7 @@ use Rattle.trace_check.specs.declared.verdict.Verdict.{Verdict}
 use Rattle.trace_check.specs.declared.verdict.Verdict.TheVariants as verdicts
 use Rattle.trace_check.specs.Verdict.{IsVerdict, IsWrong, IsInOrder}
 
--- in an ordered log each entry is in order behind those before it
+-- in an ordered log each entry is in order after those before it
 in_order_at : (entries : List Entry) (k : ℕ) (e : Entry) → slice_get entries k ≡ Some e → IsOrdered entries
     → IsInOrder (take k entries) e
 in_order_at entries k e at ordered = λ j d within.

@@ -19,7 +19,7 @@ use Rattle.trace_check.specs.declared.trace_line.TraceLine.TheVariants as trace_
 use Rattle.trace_check.specs.TraceLine.{IsOfVersion, BeginsWith, IsInRange, IsEntryOf, IsNoLineOf, with_since}
 use Rattle.trace_check.specs.TraceLine.{parts_of_line}
 
--- words behind words write parts behind parts
+-- words after words write parts after parts
 pub Writes-append : (ws vs : List (List ℕ)) (ps qs : List Part) → Writes ws ps → Writes vs qs
     → Writes (ws ++ vs) (ps ++ qs)
 Writes-append [] vs [] qs h k = k
@@ -61,7 +61,7 @@ word_for_each ws ps h = elim (cases_eq (length ws) (length ps)) [
   | inr other ↦ absurd (wrong_count (λ w. w) ws ps other (rw map-id h))
 ]
 
--- words that write parts behind parts write each of them, where there is a word for each of the first
+-- words that write parts after parts write each of them, where there is a word for each of the first
 pub Writes-split : (ws vs : List (List ℕ)) (ps qs : List Part) → length ws ≡ length ps → Writes (ws ++ vs) (ps ++ qs)
     → Writes ws ps × Writes vs qs
 Writes-split [] vs [] qs same h = (tt, h)
@@ -72,7 +72,7 @@ Writes-split (w ∷ ws) vs (key text ∷ ps) qs same h =
 Writes-split (w ∷ ws) vs (num n ∷ ps) qs same h =
     let rest = Writes-split ws vs ps qs (omega arith) h.2 in ((h.0, h.1, rest.0), rest.1)
 
--- the number behind a keyword
+-- the number after a keyword
 second_number : (ws : List (List ℕ)) (text : List ℕ) (n : ℕ) (ps : List Part) → Writes ws (key text ∷ num n ∷ ps)
     → digits_value 10 (get_or ws 1 []) ≡ n
 second_number [] text n ps h = absurd h
@@ -112,7 +112,7 @@ begins_otherwise (w ∷ ws) (ops.Add delta) word form of cas =
     two_names w (codes "add") (codes "cas") form.0 cas refl
 begins_otherwise (w ∷ ws) (ops.Cas expect new) word form of cas = absurd of
 
--- what the words behind `init` write of a line
+-- what the words after `init` write of a line
 pub init_refused : (version : Version) (ws : List (List ℕ))
     → ((word value : ℕ) → Writes ws (num word ∷ num value ∷ []) → word < MOST_WORDS → ⊥)
     → IsNoLineOf version (codes "init" ∷ ws)
@@ -125,7 +125,7 @@ init_refused version ws none (trace_lines.Entry e) is =
 abbrev pub Spells : List ℕ → ℕ → Type 0
 Spells word n = IsNumber word × (digits_value 10 word ≡ n)
 
--- the words behind its name write the entry, one by one
+-- the words after its name write the entry, one by one
 pub record AreWordsOf (e : Entry) (ws : List (List ℕ)) (access : List (List ℕ)) (us : List (List ℕ)) : Type 0 where
   pub core : Spells (get_or ws 0 []) e.core.0
   pub seq : Spells (get_or ws 1 []) e.seq
@@ -159,7 +159,7 @@ entry_words core seq tag access reply since e h =
 pub one_number : (word : List ℕ) (m n : ℕ) → Spells word m → n ≡ digits_value 10 word → m ≡ n
 one_number word m n spells is = sym spells.1 ∙ sym is
 
--- words that an entry doesn't have write no line behind its name
+-- words that an entry doesn't have write no line after its name
 pub entry_refused : (version : Version) (all : List (List ℕ)) (core seq tag : List ℕ) (access : List (List ℕ))
     (reply since : List ℕ)
     → with_since version all ≡ core ∷ seq ∷ tag ∷ (access ++ reply ∷ since ∷ [])

@@ -49,7 +49,7 @@ init_fault version ws =
 
 -- ---- an entry
 
--- words behind words have the form of parts behind parts
+-- words after words have the form of parts after parts
 HasForm-append : (ws vs : List (List ℕ)) (ps qs : List Part) → HasForm ws ps → HasForm vs qs
     → HasForm (ws ++ vs) (ps ++ qs)
 HasForm-append [] vs [] qs h k = k
@@ -75,7 +75,7 @@ form_for_each ws ps h = elim (cases_eq (length ws) (length ps)) [
   | inr other ↦ absurd (wrong_form (λ w. w) ws ps other (rw map-id h))
 ]
 
--- the words behind its name, of an entry of five numbers and an access
+-- the words after its name, of an entry of five numbers and an access
 abbrev pub AreParts : Version → List (List ℕ) → List ℕ → List ℕ → List ℕ → List (List ℕ) → List ℕ → List ℕ → Type 0
 AreParts version all core seq tag access reply since =
     with_since version all ≡ core ∷ seq ∷ tag ∷ (access ++ reply ∷ since ∷ [])

@@ -41,7 +41,7 @@ may_begin check ws word value (trace_lines.Init w v) h k may =
     let same : word ≡ w = cc in
     subst (MayBegin check) (sym same) may
 
--- lines that stand before a statement's, the line that it writes, and those behind it
+-- lines that are before a statement's, the line that it writes, and those after it
 record Parts (version : Version) (done : List (ℕ × List (List ℕ))) (s : ℕ × List (List ℕ))
     (ls : List TraceLine) : Type 0 where
   before : List TraceLine
@@ -85,7 +85,7 @@ named_lines : (init : List (WordAddr × ℕ)) (entries : List Entry)
 named_lines [] entries = named_entries entries
 named_lines (p ∷ init) entries = ap (λ xs. Some p ∷ xs) (named_lines init entries)
 
--- behind an entry no line names a word
+-- after an entry no line names a word
 none_named : (a b : List Entry) (p : WordAddr × ℕ) (rest : List (Option (WordAddr × ℕ)))
     → map nothing b ≡ map nothing a ++ Some p ∷ rest → ⊥
 none_named [] [] p rest h = cc
@@ -93,7 +93,7 @@ none_named [] (e ∷ b) p rest h = cc
 none_named (d ∷ a) [] p rest h = cc
 none_named (d ∷ a) (e ∷ b) p rest h = none_named a b p rest (cc)
 
--- a word that is named next is named behind those before it, and before all entries
+-- a word that is named next is named after those before it, and before all entries
 record IsNext (init all : List (WordAddr × ℕ)) (entries : List Entry) (p : WordAddr × ℕ) : Type 0 where
   early : entries ≡ []
   more : List (WordAddr × ℕ)
@@ -115,7 +115,7 @@ next_named (r ∷ init) (q ∷ all) a b p rest h =
     let shape : q ∷ all ≡ r ∷ (init ++ p ∷ n.more) = cc in
     record { early = n.early; more = n.more; shape = shape }
 
--- the word behind the last that was named is above it
+-- the word after the last that was named is above it
 last_below : (last : Option WordAddr) (init more : List (WordAddr × ℕ)) (p : WordAddr × ℕ) → IsLastNamed last init
     → IsAscendingBy (λ pair. pair.0.0) (init ++ p ∷ more) → IfSome last (λ l. l.0 < p.0.0)
 last_below None init more p is ascending = tt
@@ -133,7 +133,7 @@ last_below (Some l) init more p is ascending =
     let at_next : get_or (init ++ p ∷ more) (length init) p ≡ p = get_or-append_seam init p more p in
     rw (at_last, at_next) at under
 
--- the line of a trace behind those that were read may come next
+-- the line of a trace after those that were read may come next
 may_follow : (check : Check) (init all : List (WordAddr × ℕ)) (entries more : List Entry)
     (before after : List TraceLine) (line : TraceLine)
     → HasRead check init entries → IsAscendingBy (λ pair. pair.0.0) all
@@ -211,7 +211,7 @@ at_first_fault check version all left number words (text_faults.Line n fault) sa
 at_first_fault check version all left number words (text_faults.Config error) same reading none at = tt
 at_first_fault check version all left number words text_faults.CannotWrite same reading none at = tt
 
--- a text with a first line, and no trace behind it, is no trace
+-- a text with a first line, and no trace after it, is no trace
 pub no_text : (text : List ℕ) (number : ℕ) (first : List (List ℕ)) (rest : List (ℕ × List (List ℕ))) (version : Version)
     → statements_from 0 (lines text) ≡ (number, first) ∷ rest → Writes first (parts_of_first version)
     → AreNoTrace version rest → IsNoTrace text
@@ -234,7 +234,7 @@ no_text text number first rest version is begins none other init entries trace =
       ),
     )
 
--- a line at fault behind the first is the text's
+-- a line at fault after the first is the text's
 pub at_fault : (statements rest : List (ℕ × List (List ℕ))) (number : ℕ) (first : List (List ℕ)) (version : Version)
     (fault : TextFault) → statements ≡ (number, first) ∷ rest → Writes first (parts_of_first version)
     → IsAtLine (IsFirstFault (AreSomeTrace version) rest) fault → IsAtLine (IsFaultAt statements) fault
@@ -260,7 +260,7 @@ above_last : (last : Option WordAddr) (init : List (WordAddr × ℕ)) (word : Wo
 above_last None init word is above = tt
 above_last (Some l) init word is above = above is.0 l is.1.0 is.1.1
 
--- a word that may be given a value behind what was read may be given one next
+-- a word that may be given a value after what was read may be given one next
 next_word : (check : Check) (init : List (WordAddr × ℕ)) (entries : List Entry) (word : WordAddr)
     → HasRead check init entries → IsNextWord init entries word → MayBegin check word
 next_word check init entries word stands next = record {

@@ -32,7 +32,7 @@ AreLines version (statement ∷ statements) [] = ⊥
 AreLines version (statement ∷ statements) (line ∷ lines) =
     IsLineOf version statement.1 line × AreLines version statements lines
 
--- the lines of a trace behind the first: what words begin with, and then the entries
+-- the lines of a trace after the first: what words begin with, and then the entries
 abbrev pub body_of : List (WordAddr × ℕ) → List Entry → List TraceLine
 body_of init entries = map (λ pair. trace_lines.Init pair.0 pair.1) init ++ map trace_lines.Entry entries
 
@@ -65,7 +65,7 @@ abbrev pub IsNoTrace : List ℕ → Type 0
 IsNoTrace text =
     (version : Version) (init : List (WordAddr × ℕ)) (entries : List Entry) → ¬ IsTrace version init entries text
 
--- the statements are a trace of this version behind its first line, with some initial values and entries
+-- the statements are a trace of this version after its first line, with some initial values and entries
 abbrev pub AreSomeTrace : Version → List (ℕ × List (List ℕ)) → Type 0
 AreSomeTrace version statements =
     (init : List (WordAddr × ℕ)) × ((entries : List Entry) × AreTrace version init entries statements)
@@ -82,7 +82,7 @@ IsNoMemoryOrLine refused (text_faults.Config error) = ⊥
 IsNoMemoryOrLine refused text_faults.CannotWrite = ⊥
 
 -- The line at fault of a text, by its statements: line 1 where there are none, the first of them where it begins no
--- trace, and else the first at fault behind it.
+-- trace, and else the first at fault after it.
 abbrev pub IsFaultAt : List (ℕ × List (List ℕ)) → ℕ → Type 0
 IsFaultAt [] number = number ≡ 1
 IsFaultAt (first ∷ rest) number =
@@ -142,7 +142,7 @@ pub record AreJudged (version : Version) (statements : List (ℕ × List (List �
 abbrev pub IsLate : Type 0 → List (List ℕ) → Type 0
 IsLate are_entries words = are_entries × BeginsWith (codes "init") words
 
--- What is wrong with words that can't come next. Behind an entry a value to begin with is no line there, however it is
+-- What is wrong with words that can't come next. After an entry a value to begin with is no line there, however it is
 -- written; nor is one for a word that may not be named next. Else it is what is wrong with them as a line.
 abbrev pub IsFaultNext : Type 0 → (WordAddr → Type 0) → Version → List (List ℕ) → LineFault → Type 0
 IsFaultNext are_entries MayBegin version words fault =
@@ -151,7 +151,7 @@ IsFaultNext are_entries MayBegin version words fault =
     ⊎ ((word : WordAddr) × (value : ℕ) × IsLineOf version words (trace_lines.Init word value) × (¬ MayBegin word)
     × (fault ≡ line_faults.NotACommand))
 
--- a word that may be given a value behind these initial values and entries: behind no entry, and above those named
+-- a word that may be given a value after these initial values and entries: after no entry, and above those named
 pub record IsNextWord (init : List (WordAddr × ℕ)) (entries : List Entry) (word : WordAddr) : Type 0 where
   pub early : entries ≡ []
   pub above : (before : List (WordAddr × ℕ)) (last : WordAddr) (value : ℕ) → init ≡ before ++ (last, value) ∷ []

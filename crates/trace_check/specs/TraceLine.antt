@@ -62,7 +62,7 @@ unfoldable pub IsInRange : Version → TraceLine → Type 0
 IsInRange version (trace_lines.Init word value) = word.0 < MOST_WORDS
 IsInRange version (trace_lines.Entry e) = IsEntryOf version e
 
--- the words of an entry behind its name, with SINCE: where the version leaves it out, it is 0
+-- the words of an entry after its name, with SINCE: where the version leaves it out, it is 0
 abbrev pub with_since : Version → List (List ℕ) → List (List ℕ)
 with_since versions.WithoutSince words = words ++ codes "0" ∷ []
 with_since version words = words

@@ -16,13 +16,13 @@ IsItsReply initial log e = e.reply ≡ reply_of e.op (value (initial e.word.0) l
 abbrev pub IsInOrder : List Entry → Entry → Type 0
 IsInOrder log e = All (λ d. IsAfter d e) log
 
--- the entry may stand behind this log
+-- the entry may follow this log
 pub record IsRight (initial : ℕ → ℕ) (log : List Entry) (e : Entry) : Type 0 where
   pub reply : IsItsReply initial log e
   pub order : IsInOrder log e
   pub since : e.since ≤ length log
 
--- the entry may not stand behind this log, for this reason and none that is tried before it
+-- the entry may not follow this log, for this reason and none that is tried before it
 unfoldable pub IsWrong : (ℕ → ℕ) → List Entry → Entry → Reason → Type 0
 IsWrong initial log e reasons.Reply = ¬ IsItsReply initial log e
 IsWrong initial log e reasons.Order = IsItsReply initial log e × (¬ IsInOrder log e)

@@ -69,7 +69,7 @@ pub fn none_by_since()
         → IsVerdict (initially init) entries (verdicts.Illegal k reasons.Since) → ⊥ }
 {}
 
-/// Judges the lines behind the first.
+/// Judges the lines after the first.
 fn check_lines(
     alloc: Global,
     version: Version,

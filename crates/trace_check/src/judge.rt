@@ -50,7 +50,7 @@ impl Judge {
         set_slot(&mut self.values, 0, word.0 as usize, value)
     }
 
-    /// Why an entry can't stand behind those that were taken, of which there are `number`.
+    /// Why an entry can't follow those that were taken, of which there are `number`.
     pub fn fault(&self, number: usize, entry: &Entry) -> Option<Reason>
         requires { IsNameable entry.now }
         ensures { (initial : ℕ → ℕ) (log : List Entry) → number ≡ length log → Knows self.now initial log
@@ -68,7 +68,7 @@ impl Judge {
         None
     }
 
-    /// Takes an entry that can stand behind those that were taken.
+    /// Takes an entry that can follow those that were taken.
     pub fn take(&mut self, entry: &Entry) -> Result<(), AllocError>
         requires { IsNameable entry.now }
         ensures { OnOk result

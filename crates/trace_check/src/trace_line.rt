@@ -29,7 +29,7 @@ pub enum Version {
     WithoutSince,
 }
 
-/// What a line of a trace says, behind the first.
+/// What a line of a trace says, after the first.
 #[derive(Clone, Copy, Debug, PartialEq, Eq)]
 pub enum TraceLine {
     /// A word and the value that it begins with.
@@ -76,7 +76,7 @@ impl Version {
     }
 }
 
-// The version, behind the word that all traces begin with.
+// The version, after the word that all traces begin with.
 #[tactic(auto, using(litmus_text::proofs::FormLemmas::wrong_count))]
 fn version_of(words: &[&[u8]]) -> Result<Version, LineFault>
     ensures written { IfOk result (λ version. Writes (map (λ w. w.now) words.now) (key (number_of version) ∷ [])) }
@@ -139,7 +139,7 @@ fn parse_init(words: &[&[u8]]) -> Result<TraceLine, LineFault>
     Ok(TraceLine::Init(WordAddr(word), value))
 }
 
-/// The words of an entry, behind its name.
+/// The words of an entry, after its name.
 #[derive(Clone, Copy)]
 struct EntryWords<'a> {
     core: &'a [u8],

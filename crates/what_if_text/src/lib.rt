@@ -2,7 +2,7 @@
 //! line to which it leads.
 //!
 //! [`write_told`] writes text for a terminal, [`write_told_json`] the same as JSON. A row that our table doesn't have is
-//! marked as changed ([`is_changed`]), and a message that a changed cell never takes is told behind the steps. How it is worded is not proved. `words` has the names, `found` what is told besides a
+//! marked as changed ([`is_changed`]), and a message that a changed cell never takes is told after the steps. How it is worded is not proved. `words` has the names, `found` what is told besides a
 //! step's row, `state_text` a line's copies, entry and messages, and `messages_json` the messages as JSON.
 #![tactic(auto)]
 

@@ -35,7 +35,7 @@ only-found buffer line place sound found =
     blank = record
         { leaving = record { block = record { words = [] }; state = copy_states.I }; line = record { 0 = 0 } }
 
--- what stands there is what is held
+-- what is there is what is held
 pub held-found : (buffer : Buffer) (line place : ℕ) (d : PendingWriteBack) → IsBuffer buffer
     → position (is_of line) buffer.write_backs ≡ Some place
     → held_at buffer.write_backs line ≡ Some (get_or buffer.write_backs place d).leaving

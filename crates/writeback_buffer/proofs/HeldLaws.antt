@@ -16,7 +16,7 @@ is_of-other : (write_back : PendingWriteBack) (line other : ℕ) → other ≢ l
 is_of-other write_back line other apart same =
     ne_eqb write_back.line.0 other (λ e. apart (sym e ∙ eqb-true write_back.line.0 line same))
 
--- what is held is what stands at the line's place
+-- what is held is what is at the line's place
 pub held_at-only : (write_backs : List PendingWriteBack) (line place : ℕ) (d : PendingWriteBack) →
     PassesOnlyAt (is_of line) write_backs place
     → held_at write_backs line ≡ Some (get_or write_backs place d).leaving
@@ -71,7 +71,7 @@ only-from_once write_backs line place d once within same = record {
     here : (e : PendingWriteBack) → is_of line (get_or write_backs place e) ≡ true
     here e = rw (get_or_default write_backs place e d within) same
 
--- a line of which nothing is held may be put behind the others
+-- a line of which nothing is held may be put after the others
 pub once-append : (write_backs : List PendingWriteBack) (write_back : PendingWriteBack) → HasEachLineOnce write_backs
     → NonePasses (is_of write_back.line.0) write_backs
     → HasEachLineOnce (write_backs ++ write_back ∷ [])

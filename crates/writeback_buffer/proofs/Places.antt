@@ -1,4 +1,4 @@
--- A list of which at most one element passes a test: what stands there is the one that the test finds.
+-- A list of which at most one element passes a test: what is there is the one that the test finds.
 use Rattle.std.proofs.Common.{◌≡◌, ◌≢◌, ℕ, ◌<◌, Bool, true, false, List, [], ◌∷◌, length, get_or, set, map, filter}
 use Rattle.std.proofs.Common.{None, suc, zero, refl, sym, ◌∙◌, arith, not, nat_lt, inl, inr}
 use Rattle.std.specs.Prelude.{position, remove}

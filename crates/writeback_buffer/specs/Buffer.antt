@@ -35,7 +35,7 @@ pub record IsBuffer (buffer : Buffer) : Type 0 where
 abbrev pub empty_buffer : ℕ → Buffer
 empty_buffer capacity = record { write_backs = []; capacity = capacity }
 
--- the buffer with this line behind the others
+-- the buffer with this line after the others
 abbrev pub with_line : Buffer → ℕ → Leaving → Buffer
 with_line buffer line leaving =
     record buffer { write_backs = buffer.write_backs ++ record { leaving = leaving; line = record { 0 = line } } ∷ [] }

@@ -12,7 +12,7 @@
 //! - [`WritebackBuffer::has_room`] compares the number of write-backs with the capacity, which is never passed.
 //!
 //! No call takes memory: the write-backs, at most [`MOST_WRITE_BACKS`] of 80 bytes, lie in the value. A call looks at each
-//! write-back at most once, and copies no block but the one that comes or goes. Those behind one that goes move down by a
+//! write-back at most once, and copies no block but the one that comes or goes. Those after one that goes move down by a
 //! place.
 #![tactic(auto)]
 

@@ -61,7 +61,7 @@ struct Paths {
     /// The clusters that were reached, in that order, and the way to each.
     reached: Vec<usize>,
     ways: Vec<Option<Link>>,
-    /// The accesses behind which all of their core were reached.
+    /// The accesses after which all of their core were reached.
     is_passed: Vec<bool>,
     /// How many of `by_begin` were reached.
     begun: usize,

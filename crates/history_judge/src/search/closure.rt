@@ -42,7 +42,7 @@ pub struct Closure {
     clocks: Vec<u32>,
     causes: Vec<u32>,
     pub edges: Vec<Edge>,
-    /// Edges from accesses that come behind the edge's end.
+    /// Edges from accesses that come after the edge's end.
     pub circles: Vec<Edge>,
     is_changed: bool,
 }
@@ -103,7 +103,7 @@ impl Closure {
         Ok(())
     }
 
-    // An access comes behind the one that its core asked for before it, and those that had ended when it began.
+    // An access comes after the one that its core asked for before it, and those that had ended when it began.
     fn follow(&mut self, plan: &Plan, place: usize, ended: &[usize]) -> Result<(), AllocError> {
         let before = plan.before(place);
         if before != NONE {
@@ -117,7 +117,7 @@ impl Closure {
         Ok(())
     }
 
-    // An access that found what the source left comes behind it, and behind the source no other that changed the word.
+    // An access that found what the source left comes after it, and after the source no other that changed the word.
     fn find(&mut self, plan: &Plan, source: usize, place: usize) -> Result<(), AllocError> {
         if source != place {
             self.note(plan, linked(source, place, Why::Source))?;
@@ -139,7 +139,7 @@ impl Closure {
         Ok(())
     }
 
-    // An access that changes the word comes behind those that found what it overwrites.
+    // An access that changes the word comes after those that found what it overwrites.
     fn change(&mut self, plan: &Plan, place: usize) -> Result<(), AllocError> {
         let word = at(&plan.word, place, 0);
         for core in 0..plan.cores {
@@ -188,7 +188,7 @@ impl Closure {
         place.saturating_mul(self.cores).saturating_add(core)
     }
 
-    // How many accesses of a core come before whatever is behind this one.
+    // How many accesses of a core come before whatever is after this one.
     fn behind(&self, plan: &Plan, place: usize, core: usize) -> usize {
         if at(&plan.core, place, NONE) == core {
             at(&plan.rank, place, 0).saturating_add(1)

@@ -58,7 +58,7 @@ impl Graph {
         })
     }
 
-    /// Returns two accesses of which that of the first cluster comes behind the other, which isn't in it.
+    /// Returns two accesses of which that of the first cluster comes after the other, which isn't in it.
     pub fn before_first(&self) -> Option<Pair> {
         for (later, earlier) in self.next.iter().enumerate() {
             let is_other = !matches!(at(&self.cluster, later, 0), 0 | NONE);

@@ -3,7 +3,7 @@
 /// The place of nothing.
 pub const NONE: usize = usize::MAX;
 
-/// Returns what stands at a place, or this past the end.
+/// Returns what is at a place, or this past the end.
 pub fn at<T: Copy>(items: &[T], place: usize, other: T) -> T {
     match items.get(place) {
         Some(item) => *item,

@@ -8,7 +8,7 @@ use std::alloc::{AllocError, Global};
 
 const CORES: usize = 256;
 
-/// Two accesses that stand in an order, of which the later one comes first.
+/// Two accesses that are in an order, of which the later one comes first.
 #[derive(Clone, Copy, Debug, PartialEq, Eq)]
 pub struct Pair {
     pub earlier: usize,

@@ -179,7 +179,7 @@ fn circle_of(
     })
 }
 
-// The circle of accesses of the whole history that stand at these places.
+// The circle of accesses of the whole history that are at these places.
 fn among(alloc: Global, kept: &[usize], chains: &[Chain]) -> Result<Vec<Chain>, AllocError> {
     let mut whole = Vec::new(alloc);
     for chain in chains {

@@ -43,7 +43,7 @@ pub const STATE: &str = "\
 
 ";
 
-/// What a row has, and the line before it and behind it.
+/// What a row has, and the line before it and after it.
 pub const ROWS: &str = "\
 ; ---- What a row is
 

@@ -1,10 +1,10 @@
-//! The page's code: what stands beside the diagram.
+//! The page's code: what is beside the diagram.
 
 /// Tells one step: the command and what happened, the row that was met, and what the cores hold.
 pub const FOCUS: &str = r#"
 // ---- the step
 
-// the script's lines, and the comments that stand before each command
+// the script's lines, and the comments that are before each command
 const captions = [];
 function readScript() {
     const firstOf = new Map();

@@ -57,7 +57,7 @@ hides.onchange = () => show(now);
 const isAllShown = isFutureShown;
 isFutureShown = () => isAllShown() && !hides.checked;
 
-// The page shows what it shows of any step, but none behind the first whose answer isn't known.
+// The page shows what it shows of any step, but none after the first whose answer isn't known.
 const showAny = show;
 show = number => {
     const to = knownTo();

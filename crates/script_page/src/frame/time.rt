@@ -71,7 +71,7 @@ function readDelivery(row) {
     row.message = (waits.get(channelOf(row.line, row.call)) || []).shift();
     if (row.message) row.message.delivered = row;
 }
-// What the directory forwards is told by the plan, since it can stand behind another message. In all other channels one
+// What the directory forwards is told by the plan, since it can follow another message. In all other channels one
 // message is at most, so what is new in front of one was sent at the step.
 function readSends(row, { line, victim, plan }) {
     for (const it of [line, victim]) {

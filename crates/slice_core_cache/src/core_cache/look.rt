@@ -19,7 +19,7 @@ use writeback_buffer::PendingWriteBack;
 /// What a message looks at of a core's copy: all but its block.
 #[derive(Clone, Copy, Debug, PartialEq, Eq)]
 pub struct CopyLook {
-    /// Where the copy stands in its set, if the array holds it.
+    /// Where the copy is in its set, if the array holds it.
     pub way: Option<usize>,
     pub state: CopyState,
     /// How many acknowledgements the data named, and how many have come.

@@ -206,7 +206,7 @@ impl<F: MissFile> Parts<F> {
         self.queues.send_at(victim, channel, Message::Request(put));
     }
 
-    // Opens a miss register for the access, whose copy stands in the array (`held`) or has a way, and asks the
+    // Opens a miss register for the access, whose copy is in the array (`held`) or has a way, and asks the
     // directory. Returns its `seq`.
     fn open(
         &mut self,

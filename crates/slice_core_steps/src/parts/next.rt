@@ -15,7 +15,7 @@ use slice_queues::{Channel, Class, Pick};
 
 impl<F: MissFile> Parts<F> {
     /// Makes the delivery that is next of the class, if one can be made. It looks at the lines with pending messages
-    /// from the front of their ring on; the lines that it looked at go behind the others.
+    /// from the front of their ring on; the lines that it looked at go after the others.
     pub fn deliver_next(&mut self, class: Class) -> DeliveredNext
         requires { CanDeliver self.old }
         ensures step { AfterDeliverNext self.old class result self.new }

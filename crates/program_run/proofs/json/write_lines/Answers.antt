@@ -12,7 +12,7 @@ use Rattle.program_run.specs.Tally.{counts_at, requests_of}
 use Rattle.json_text.proofs.Commas.{at_range, next_text, skip_text}
 use Rattle.program_run.proofs.json.write_lines.Goals as goal
 
--- the texts of a line and of those behind it, by whether the line was asked for
+-- the texts of a line and of those after it, by whether the line was asked for
 texts_by : (first : Bool) (counts : List Counts) (line : ℕ) (rest : List ℕ) (asked : Bool)
     → is_asked counts line ≡ asked
     → with_commas_from first (objects_of_lines counts (line ∷ rest))

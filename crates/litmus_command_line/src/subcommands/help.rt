@@ -40,7 +40,7 @@ of the protocol's tables, with how often it was met, as far as one of the files 
   cache IS_D Inv blocked 2
   directory S PutM I 0
 
-A file may hold several such outputs, one behind another.
+A file may hold several such outputs, one after another.
 
 Documents: docs/TEXTS.md (coverage), docs/PROTOCOL.md (the tables)
 
@@ -135,19 +135,19 @@ Example: lockup walk examples/litmus/sb.txt --rounds 1000";
 
 /// What stands below the options of `merge`.
 pub const MERGE: &str = "\
-A part is what 'lockup walk --part' prints of some rounds of a litmus test. Behind the test come the
-files of its parts, in any order, each with one part or more. The table is that of one walk with the
+A part is what 'lockup walk --part' prints of some rounds of a litmus test. The files of the parts
+follow the test, in any order, each with one part or more. The table is that of one walk with the
 rounds of all parts, each counted once.
 
 Parts of another test, with another limit or with seeds that are counted twice are refused. Seeds that
-no part counts are told as the options with which 'lockup walk --part' walks them:
+no part counts are printed as options of 'lockup walk --part':
 
   --seed 1000001 --rounds 1000000
 
 Rows are what 'lockup run' prints of a sweep, as CSV. Those of several files are printed as one, each
-once; a row that is there twice with other figures is refused. With --mean a row stands for each
-combination of settings: of each figure the mean over its seeds, and behind it half the width of a
-95 % confidence interval, as Student's distribution has it.
+once; a row that is there twice with other figures is refused. With --mean each combination of
+settings has one row: of each figure the mean over its seeds, and half the width of a 95 % confidence
+interval by Student's distribution.
 
 Documents: docs/TEXTS.md (the lines of a part, the columns of rows)
 
@@ -169,7 +169,7 @@ to N of its accesses are under way then, from 1 to 64. One that stalls is tried 
 counts for each core the primary and secondary misses, the stalls by their reason, and the most and
 the mean of miss registers and of targets in use.
 
-With 'pace N' there, or --pace N, each slice makes up to N deliveries behind each access, from 0 to
+With 'pace N' there, or --pace N, each slice makes up to N deliveries after each access, from 0 to
 64, each drawn from those that it can be asked for; the report then says how many moves there were,
 and how many of them delivered.
 
@@ -294,7 +294,7 @@ the tables are ours.
 With --closed the cores may cease to ask at any time, and Rumur, not CMurphi, judges that each miss
 and each eviction can still be completed then.
 
-smt: each query is one row, of any number of cores: the invariant holds before it and not behind it.
+smt: each query is one row, of any number of cores: the invariant holds before it and not after it.
 All are to be unsat. tools/second-opinion asks z3 and cvc5:
 
   lockup export smt > queries.smt2

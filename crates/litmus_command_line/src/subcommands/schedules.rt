@@ -103,7 +103,7 @@ pub(super) fn walk<'a>(alloc: Global) -> Result<Command<'a>, AllocError>
             ),
             Parameter::LoneText(
                 "resume",
-                "Print the whole parts of this file, and go on behind them",
+                "Print the whole parts of this file, and go on after them",
                 "FILE",
                 &["script", "page", "coverage", "trace"],
             ),
@@ -153,7 +153,7 @@ pub(super) fn run<'a>(alloc: Global) -> Result<Command<'a>, AllocError>
             ),
             Parameter::Number(
                 "pace",
-                "Up to how many deliveries each slice makes behind an access, and not as the text says",
+                "Up to how many deliveries each slice makes after an access, and not as the text says",
                 Bounds::FewOrNone,
             ),
             Parameter::NumberOr(

@@ -24,7 +24,7 @@ pub(super) fn script<'a>(alloc: Global) -> Result<Command<'a>, AllocError>
             Parameter::Flag("echo", "Print each command's line before its answer"),
             Parameter::Flag(
                 "explain",
-                "Print behind each answer what happened, and explain an error",
+                "Print what happened after each answer, and explain an error",
             ),
             Parameter::LoneFlag(
                 "beside",
@@ -76,7 +76,7 @@ pub(super) fn prompt<'a>(alloc: Global) -> Result<Command<'a>, AllocError>
     subcommand(
         alloc,
         "try",
-        "Answers a script's lines one by one, and tells what happened behind each answer",
+        "Answers a script's lines one by one, and says what happened after each answer",
         help::TRY,
         &[Parameter::Optional("FILE", "A script to begin with")],
     )

@@ -20,7 +20,7 @@ pub(super) fn check<'a>(alloc: Global) -> Result<Command<'a>, AllocError>
             Parameter::Flag("json", "Print the verdict as one value of JSON"),
             Parameter::Flag(
                 "explain",
-                "Print behind the verdict what was expected, and explain an error",
+                "Print what was expected after the verdict, and explain an error",
             ),
         ],
     )

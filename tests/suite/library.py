@@ -1072,7 +1072,7 @@ def header_words() -> dict[str, int]:
 
 
 def kind_of(parameter: str) -> str:
-    if parameter.split()[0] in HANDLES:
+    if parameter.removeprefix("const ").split()[0] in HANDLES:
         return "handle"
     return "buffer" if "*" in parameter else "number"
 

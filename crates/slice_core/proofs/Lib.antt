@@ -34,5 +34,3 @@ pub mod Machine
 pub mod Fronts
 pub mod OwnLines
 pub mod Victim
-pub mod WordsNow
-pub mod NewLog

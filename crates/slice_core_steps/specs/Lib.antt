@@ -1,4 +1,3 @@
 pub mod CoreLines
 pub mod Found
-pub mod NewLog
 pub mod Planned

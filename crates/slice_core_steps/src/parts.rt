@@ -16,7 +16,6 @@ mod evict;
 mod hand;
 mod issue;
 mod look;
-mod new_log;
 mod next;
 mod plan;
 

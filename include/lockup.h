@@ -434,6 +434,12 @@ uint32_t lockup_deliver_next(lockup_machine *machine, uint64_t slice, uint64_t c
 /* Hands out the core's next reply of a slice. Its tag is then free. */
 uint32_t lockup_hand(lockup_machine *machine, uint64_t core, uint64_t slice, lockup_receipt *receipt);
 
+/* Begins a new log of a slice where the slice is quiet: `begun` is 1 then, and else 0, and nothing has changed. Copies,
+ * the directory and the values of words stay. Entries and requests are numbered from 0 again, and so is all that is
+ * counted: look at the log and the counts before. A long run that does so now and then takes no more memory the longer
+ * it runs. LOCKUP_NO_MEMORY. */
+uint32_t lockup_begin_log(lockup_machine *machine, uint64_t slice, uint64_t *begun);
+
 /* ---- what a step would do. Nothing is changed. */
 
 /* What lockup_issue would do. */

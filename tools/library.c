@@ -40,6 +40,9 @@ EXPORT(deliver_next,
 EXPORT(hand,
        (lockup_machine *machine, uint64_t core, uint64_t slice, lockup_receipt *receipt),
        machine && receipt, (machine, core, slice, receipt))
+EXPORT(begin_log,
+       (lockup_machine *machine, uint64_t slice, uint64_t *begun),
+       machine && begun, (machine, slice, begun))
 EXPORT(decide,
        (const lockup_machine *machine, uint64_t core, uint64_t tag, uint64_t op, uint64_t word, uint64_t operand,
         uint64_t replacement, lockup_decision *decision),

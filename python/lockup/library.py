@@ -47,6 +47,7 @@ PROTOTYPES = {
     "deliver": [HANDLE, WORD, WORD, WORD, WORD, BUFFER],
     "deliver_next": [HANDLE, WORD, WORD, BUFFER],
     "hand": [HANDLE, WORD, WORD, BUFFER],
+    "begin_log": [HANDLE, WORD, BUFFER],
     "decide": [HANDLE, WORD, WORD, WORD, WORD, WORD, WORD, BUFFER],
     "plan": [HANDLE, WORD, WORD, WORD, WORD, BUFFER],
     "cell_of_issue": [HANDLE, WORD, WORD, WORD, WORD, WORD, WORD, BUFFER],

@@ -263,6 +263,13 @@ class Machine(Owner):
         while (receipt := self.hand(core, slice)) is not None:
             yield receipt
 
+    def begin_log(self, slice: int = 0) -> bool:
+        """Begins a new log of a slice where the slice is quiet, and returns whether it is.
+
+        Copies and the values of words stay. Entries, requests and all that is counted are numbered from 0 again, so a
+        long run that does so now and then takes no more memory the longer it runs."""
+        return bool(self._count("begin_log", slice))
+
     # ---- what a step would do
 
     def decide(self, core: int, tag: int, op: int, word: int, operand: int = 0, replacement: int = 0) -> Decision:

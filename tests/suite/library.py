@@ -279,7 +279,8 @@ OK, NO_MACHINE, OUT_OF_RANGE, NO_MEMORY, IN_USE, NULL = range(6)
 # each function with a handle: words that are right on a machine of 2 cores, 1 slice and 16 lines, and of its output
 FUNCTIONS = {
     "issue": ([0, 0, 0, 0, 0, 0], 3), "evict": ([0, 0], 1), "deliver": ([0, 0, 0, 0], 1), "deliver_next": ([0, 5], 5),
-    "hand": ([0, 0], 4), "decide": ([0, 0, 0, 0, 0, 0], 4), "plan": ([0, 0, 0, 0], 4), "next": ([0, 5], 5),
+    "hand": ([0, 0], 4), "begin_log": ([0], 1), "decide": ([0, 0, 0, 0, 0, 0], 4), "plan": ([0, 0, 0, 0], 4),
+    "next": ([0, 5], 5),
     "cell_of_issue": ([0, 0, 0, 0, 0, 0], 1), "cell_of_evict": ([0, 0], 1), "cell_of_deliver": ([0, 0, 0, 0], 1),
     "copy_at": ([0, 0], 11), "directory_at": ([0], 11), "quiet": ([], 1), "registers": ([0, 0], 1),
     "register_at": ([0, 0, 0], 5), "targets": ([0, 1], 1), "target_at": ([0, 1, 0], 7), "writebacks": ([0, 0], 1),
@@ -291,7 +292,7 @@ FUNCTIONS = {
 # words that are out of range: the function, the place of the word, and the least that is
 PAST = [
     ("issue", 0, 2), ("issue", 1, 256), ("issue", 2, 4), ("evict", 0, 2), ("evict", 1, 16), ("deliver", 0, 5),
-    ("deliver", 1, 16), ("deliver", 2, 2), ("deliver_next", 0, 1), ("deliver_next", 1, 6), ("hand", 0, 2), ("hand", 1, 1),
+    ("deliver", 1, 16), ("deliver", 2, 2), ("deliver_next", 0, 1), ("deliver_next", 1, 6), ("hand", 0, 2), ("hand", 1, 1), ("begin_log", 0, 1),
     ("decide", 0, 2), ("decide", 1, 256), ("decide", 2, 4), ("plan", 0, 5), ("plan", 1, 16), ("plan", 2, 2),
     ("cell_of_issue", 0, 2), ("cell_of_issue", 1, 256), ("cell_of_issue", 2, 4), ("cell_of_evict", 0, 2),
     ("cell_of_evict", 1, 16), ("cell_of_deliver", 0, 5), ("cell_of_deliver", 1, 16), ("cell_of_deliver", 2, 2),

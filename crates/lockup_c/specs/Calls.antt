@@ -1,5 +1,6 @@
 -- What each export does to what a handle has, by the code that it returns.
-use Rattle.std.specs.Prelude.{◌≡◌, ◌⊎◌, ℕ, ◌%◌, Option, None, Some}
+use Rattle.std.specs.Prelude.{◌≡◌, ◌⊎◌, ℕ, ◌%◌, Bool, Option, None, Some, Result, Ok, Err}
+use Rattle.std.specs.declared.alloc.AllocError.{AllocError}
 use Rattle.address_map.specs.Place.{line_of as line_of_word}
 use Rattle.address_map.specs.declared.address.CoreId.{CoreId}
 use Rattle.address_map.specs.declared.address.LineAddr.{LineAddr}
@@ -8,8 +9,8 @@ use Rattle.address_map.specs.declared.request.Request.{Request}
 use Rattle.litmus_script.specs.Issued.{IsIssued, IsOutOfMemory}
 use Rattle.litmus_script.specs.Machine.{HasAt, IsAnswered}
 use Rattle.litmus_script.specs.declared.answers.Issued.{Issued}
-use Rattle.lockup_c.specs.Named.{copy_named, file_named, pick_named, request_named, turn_named}
-use Rattle.lockup_c.specs.Number.{delivered_number, evicted_number}
+use Rattle.lockup_c.specs.Named.{copy_named, file_named, pick_named, request_named, slice_named, turn_named}
+use Rattle.lockup_c.specs.Number.{delivered_number, evicted_number, flag}
 use Rattle.lockup_c.specs.Numbers.{decision_numbers, issued_numbers, next_numbers, no_decision, no_issue, no_next, no_plan}
 use Rattle.lockup_c.specs.Numbers.{no_receipt, planned_numbers, receipt_numbers}
 use Rattle.lockup_c.specs.declared.held.Held.{Held}
@@ -19,6 +20,7 @@ use Rattle.lockup_c.specs.declared.structs.IssuedNumbers.{IssuedNumbers}
 use Rattle.lockup_c.specs.declared.structs.NextNumbers.{NextNumbers}
 use Rattle.lockup_c.specs.declared.structs.PlannedNumbers.{PlannedNumbers}
 use Rattle.lockup_c.specs.declared.structs.ReceiptNumbers.{ReceiptNumbers}
+use Rattle.simulator.specs.NewLog.{BeginsLogAt}
 use Rattle.simulator.specs.Simulator.{config_of, slices_of}
 use Rattle.simulator.specs.declared.simulator.Simulator.{Simulator}
 use Rattle.slice_answer.specs.declared.answer.Delivered.{Delivered}
@@ -150,6 +152,25 @@ Hands core slice code numbers =
     (λ named. (code ≡ 0) × IsHanded named numbers old new)
     ((code ≡ 2) × (numbers ≡ no_receipt) × (new ≡ old)))
     ((code ≡ 1) × (numbers ≡ no_receipt))
+
+-- the slice began a new log or not, as the number says, or there was no memory for it
+abbrev pub SaysBegun : ℕ → ℕ → Result Bool AllocError → Type 0
+SaysBegun code begun (Ok is_quiet) = (code ≡ 0) × (begun ≡ flag is_quiet)
+SaysBegun code begun (Err error) = (code ≡ 3) × (begun ≡ 0)
+
+pub record IsLogBegun (slice : SliceId) (code begun : ℕ) (old new : Simulator) : Type 0 where
+  pub config : config_of new ≡ config_of old
+  pub answer : Result Bool AllocError
+  pub is : BeginsLogAt slice.0 answer (slices_of old) (slices_of new)
+  pub said : SaysBegun code begun answer
+
+abbrev pub BeginsLogOf : ℕ → ℕ → ℕ → Option Held → Option Held → Type 0
+BeginsLogOf slice code begun =
+    OnMachine
+    (λ old new. IfNamed (slice_named (config_of old) slice)
+    (λ named. IsLogBegun named code begun old new)
+    ((code ≡ 2) × (begun ≡ 0) × (new ≡ old)))
+    ((code ≡ 1) × (begun ≡ 0))
 
 -- ---- what a step would do
 

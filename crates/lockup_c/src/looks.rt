@@ -185,7 +185,7 @@ fn show_quiet(held: &Held, quiet: &mut u64) -> u32
     DONE
 }
 
-fn flag(is_so: bool) -> u64
+pub(crate) fn flag(is_so: bool) -> u64
     ensures { result ≡ flag is_so }
 {
     if is_so { 1 } else { 0 }

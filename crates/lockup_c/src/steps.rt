@@ -1,11 +1,12 @@
 //! The steps of a machine.
 ghost use Rattle.std.specs.Prelude.{Some};
-ghost use Rattle.lockup_c.specs.Calls.{Delivers, DeliversNext, Evicts, Hands, Issues};
+ghost use Rattle.lockup_c.specs.Calls.{BeginsLogOf, Delivers, DeliversNext, Evicts, Hands, Issues};
 
 use super::codes::{DONE, NO_MACHINE, NO_MEMORY, OUT_OF_RANGE};
 use super::handle::{Handle, put, take};
 use super::held::Held;
-use super::names::{copy_named, file_named, pick_named, request_named, turn_named};
+use super::looks::flag;
+use super::names::{copy_named, file_named, pick_named, request_named, slice_named, turn_named};
 use super::numbers::{
     NO_ISSUE, NO_NEXT, NO_RECEIPT, delivered_number, evicted_number, issued_numbers, next_numbers,
     receipt_numbers,
@@ -237,4 +238,50 @@ fn hand(held: &mut Held, core: u64, slice: u64, receipt: &mut ReceiptNumbers) ->
     };
     *receipt = receipt_numbers(simulator.hand(core, slice));
     DONE
+}
+
+/// Begins a new log of a slice, where it is quiet.
+#[unsafe(no_mangle)]
+pub extern "C" fn lockup_begin_log(
+    alloc: Global,
+    handle: &mut Handle,
+    slice: u64,
+    begun: &mut u64,
+) -> u32
+    ensures { BeginsLogOf slice result begun.new handle.old.value handle.new.value }
+{
+    match take(handle, alloc) {
+        Some(mut held) => {
+            let code = begin_log(&mut held, slice, begun);
+            put(handle, held);
+            code
+        }
+        None => {
+            *begun = 0;
+            NO_MACHINE
+        }
+    }
+}
+
+fn begin_log(held: &mut Held, slice: u64, begun: &mut u64) -> u32
+    ensures { BeginsLogOf slice result begun.new (Some held.old) (Some held.new) }
+{
+    let Held::Machine(simulator) = held else {
+        *begun = 0;
+        return NO_MACHINE;
+    };
+    let Some(slice) = slice_named(simulator.config(), slice) else {
+        *begun = 0;
+        return OUT_OF_RANGE;
+    };
+    match simulator.begin_log(slice) {
+        Ok(is_quiet) => {
+            *begun = flag(is_quiet);
+            DONE
+        }
+        Err(_) => {
+            *begun = 0;
+            NO_MEMORY
+        }
+    }
 }

@@ -1,4 +1,5 @@
 pub mod Cells
 pub mod Judge
 pub mod Looks
+pub mod NewLog
 pub mod Simulator

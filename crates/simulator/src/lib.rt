@@ -6,8 +6,8 @@
 //!   what the lines of a script configure.
 //! - [`TraceJudge`] judges a trace entry by entry, as it comes.
 //!
-//! Only these allocate: [`Simulator::build`], [`Simulator::issue`], [`Simulator::register_at`], [`Simulator::core_lines`],
-//! [`Simulator::set_lines`], and the calls of [`TraceJudge`].
+//! Only these allocate: [`Simulator::build`], [`Simulator::issue`], [`Simulator::begin_log`], [`Simulator::register_at`],
+//! [`Simulator::core_lines`], [`Simulator::set_lines`], and the calls of [`TraceJudge`].
 #![tactic(auto)]
 
 pub use judge::TraceJudge;

@@ -6,6 +6,7 @@ ghost use Rattle.litmus_script.specs.Machine.{HasAt, IsAnswered, IsLineView, IsS
 ghost use Rattle.litmus_text.specs.Command.{HasCore};
 ghost use Rattle.simulator.specs.Cells.{HasItsCore, MeetsCell};
 ghost use Rattle.simulator.specs.Looks.{IsCountOf, message_at, register_at, waiting_at};
+ghost use Rattle.simulator.specs.NewLog.{BeginsLogAt};
 ghost use Rattle.simulator.specs.Simulator.{IsCopyOf, IsNewSimulator, IsNotBuilt, config_of, slices_of};
 ghost use Rattle.slice_core.specs.Facts.{copy_at, targets_at};
 ghost use Rattle.slice_core.specs.declared.run.Call.TheVariants as slice_calls;
@@ -134,6 +135,18 @@ impl Simulator {
         match self {
             Simulator::Explicit(machine) => machine.hand(core, slice),
             Simulator::Inverted(machine) => machine.hand(core, slice),
+        }
+    }
+
+    /// Begins a new log of a slice where it is quiet, and returns whether it is: see `SliceState::begin_log` of `slice_core`.
+    pub fn begin_log(&mut self, slice: SliceId) -> Result<bool, AllocError>
+        requires { slice.0 < (config_of self.old).slices }
+        ensures config { config_of self.new ≡ config_of self.old }
+        ensures begun { BeginsLogAt slice.0 result (slices_of self.old) (slices_of self.new) }
+    {
+        match self {
+            Simulator::Explicit(machine) => slices::begin_log(machine, slice),
+            Simulator::Inverted(machine) => slices::begin_log(machine, slice),
         }
     }
 

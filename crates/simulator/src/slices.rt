@@ -7,6 +7,7 @@ ghost use Rattle.litmus_script.specs.Machine.{HasAt, IsAnswered};
 ghost use Rattle.litmus_text.specs.Command.{HasCore};
 ghost use Rattle.simulator.specs.Cells.{HasItsCore, MeetsCell};
 ghost use Rattle.simulator.specs.Looks.{IsCountOf, message_at, register_at, waiting_at};
+ghost use Rattle.simulator.specs.NewLog.{BeginsLogAt};
 ghost use Rattle.slice_core.specs.Facts.{copy_at, targets_at};
 ghost use Rattle.slice_core.specs.declared.run.Call.TheVariants as slice_calls;
 ghost use Rattle.slice_core.specs.declared.run.CallAnswer.TheVariants as call_answers;
@@ -85,6 +86,18 @@ pub(crate) fn deliver_next<F: MissFile>(
         machine.old.slices.items machine.new.slices.items }
 {
     machine.slices[slice.0 as usize].deliver_next(class)
+}
+
+pub(crate) fn begin_log<F: MissFile>(
+    machine: &mut Machine<F>,
+    slice: SliceId,
+) -> Result<bool, AllocError>
+    requires { slice.0 < machine.old.config.slices }
+    ensures config { machine.new.config ≡ machine.old.config }
+    ensures begun { BeginsLogAt slice.0 result machine.old.slices.items machine.new.slices.items }
+{
+    let alloc = machine.alloc;
+    machine.slices[slice.0 as usize].begin_log(alloc)
 }
 
 pub(crate) fn decide<F: MissFile>(machine: &Machine<F>, core: CoreId, request: Request) -> Decision

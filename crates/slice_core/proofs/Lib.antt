@@ -34,3 +34,5 @@ pub mod Machine
 pub mod Fronts
 pub mod OwnLines
 pub mod Victim
+pub mod WordsNow
+pub mod NewLog

@@ -1,4 +1,5 @@
 pub mod Facts
+pub mod NewLog
 pub mod Run
 pub mod Shape
 pub mod Sound

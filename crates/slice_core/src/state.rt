@@ -5,6 +5,7 @@ ghost use Rattle.address_map.specs.Place.{line_of};
 ghost use Rattle.slice_core.specs.Facts.{copy_at, targets_at, AreWaitingAt, HasEachFrontOnce, Holds, IsInverted};
 ghost use Rattle.slice_core.specs.Facts.{IsNotBroken, IsNotBrokenNext, IsSameSlice, LeavesVictim, NeedsNoRegister};
 ghost use Rattle.slice_core.specs.Facts.{ShowsLast, ShowsLine, ShowsWord, front_at};
+ghost use Rattle.slice_core.specs.NewLog.{AfterBeginLog, BeginsAnewIf};
 ghost use Rattle.slice_core.specs.Run.{AfterCall, HasCore, HasCores, IsOneRun, IsUnbroken, Runs};
 ghost use Rattle.slice_core_cache.specs.CoreCache.{tag_at};
 ghost use Rattle.slice_core_theory.specs.SmallMachine.{IsSame, new_small_machine};
@@ -136,6 +137,23 @@ impl<F: MissFile> SliceState<F> {
         ensures holds { Holds self.new }
     {
         self.parts.hand(core)
+    }
+
+    /// Begins a new log where the slice is quiet, and changes nothing where it isn't, or where memory is lacking.
+    /// Returns whether it is quiet. Each word begins with the value that it has, and requests, entries and all that is
+    /// counted are numbered from 0 again; copies stay where they are. So the memory of a long run is bounded.
+    pub fn begin_log(&mut self, alloc: Global) -> Result<bool, AllocError>
+        ensures step { AfterBeginLog self.old result self.new }
+        ensures anew { BeginsAnewIf self.old result self.new }
+        ensures same { IsSameSlice (record self.old { view = record self.old.view { init = self.new.view.init } })
+            self.new }
+        ensures holds { Holds self.new }
+    {
+        if !self.parts.is_quiet() {
+            return Ok(false);
+        }
+        self.parts.begin_log(alloc)?;
+        Ok(true)
     }
 
     /// Makes the calls in order, and writes each one's answer at its place.

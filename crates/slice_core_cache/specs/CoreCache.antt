@@ -49,6 +49,10 @@ new_cache c bound slice core = record {
   generator = of_seed (splitmix_seed 32 (seed_of c.policy slice core));
 }
 
+-- a core whose requests are counted from 0
+abbrev pub recounted : CoreCacheView → CoreCacheView
+recounted cache = record cache { accepted = 0 }
+
 -- the core's copy of a line
 abbrev pub copy_of : CoreCacheView → Local → CacheCopy
 copy_of cache local = found_in (array_at cache.array local) (buffer_at cache.buffer.write_backs local.0)

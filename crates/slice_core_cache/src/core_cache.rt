@@ -47,7 +47,7 @@ impl<F: MissFile> Model for CoreCache<F> {
 }
 
 impl<F: MissFile> CoreCache<F> {
-    ghost use Rattle.slice_core_cache.specs.CoreCache.{new_cache, copy_of, tag_at, IsCoreCacheQuiet};
+    ghost use Rattle.slice_core_cache.specs.CoreCache.{new_cache, copy_of, recounted, tag_at, IsCoreCacheQuiet};
     ghost use Rattle.slice_core_cache.specs.Steps.{AfterHand};
 
     /// A core that has asked for nothing yet. It takes all the memory that it will ever need.
@@ -132,6 +132,13 @@ impl<F: MissFile> CoreCache<F> {
         let (tag, number) = self.tags.least_reply()?;
         self.tags.set(tag, TagState::Free);
         Some(number)
+    }
+
+    /// Counts the core's requests from 0 again.
+    pub fn count_anew(&mut self)
+        ensures { self.new ≡ recounted self.old }
+    {
+        self.accepted = 0;
     }
 
     /// Whether no access waits, no line leaves and each reply is handed out.

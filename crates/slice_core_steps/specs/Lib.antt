@@ -1,3 +1,4 @@
 pub mod CoreLines
 pub mod Found
+pub mod NewLog
 pub mod Planned

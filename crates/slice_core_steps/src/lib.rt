@@ -6,7 +6,7 @@
 //! on them.
 //!
 //! All memory is taken by [`Parts::new`], but for the log, which grows in [`Parts::issue`] alone, before anything
-//! changes, and the lists of [`Parts::core_lines`]. A call looks at its own line and core: no call searches lines or
+//! changes, the lists of [`Parts::core_lines`], and what [`Parts::begin_log`] begins anew. A call looks at its own line and core: no call searches lines or
 //! cores, but [`Parts::deliver_next`] and [`Parts::next`], which look at the lines with pending messages from the front
 //! of their ring, and [`Parts::waiting`], which goes through all lines. What a call would decide can be asked without
 //! it: [`Parts::decide`], [`Parts::plan_at`] and [`Parts::next`] change nothing.

@@ -16,6 +16,7 @@ mod evict;
 mod hand;
 mod issue;
 mod look;
+mod new_log;
 mod next;
 mod plan;
 

@@ -3,7 +3,7 @@
 use Rattle.std.proofs.Common.{◌≡◌, ◌⊎◌, ℕ, List, [], Option, Some, inl, inr, subst}
 use Rattle.address_map.specs.declared.config.Config.{Config}
 use Rattle.litmus.specs.Traces.{IsNotTraced}
-use Rattle.litmus_script.specs.Machine.{bound_of}
+use Rattle.mshr_file.specs.Miss.{bound_of}
 use Rattle.litmus_script.specs.Play.{IsOfRun, PlaysAll, PlaysUpTo}
 use Rattle.litmus_script.specs.Script.{IsPlayedUpTo, IsScript, Plainly, commands_of}
 use Rattle.litmus_script.specs.declared.script.Script.{Script}

@@ -2,7 +2,7 @@
 ghost use Rattle.std.specs.Prelude.{◌≡◌, ◌⊎◌, ◌-◌, ◌^◌, ℕ, List, Option, IfErr, IfOk, unwrap_or};
 ghost use Rattle.litmus.specs.Coverage.{AreCountsOf, AreCountsOfRounds, HasCounts, HasNoCounts, IsNotCounted, IsRoundNotCounted, status_with};
 ghost use Rattle.litmus.specs.Tests.{IsOfTest, IsTestNotRun};
-ghost use Rattle.litmus_script.specs.Machine.{bound_of};
+ghost use Rattle.mshr_file.specs.Miss.{bound_of};
 ghost use Rattle.litmus_script.specs.Play.{IsOfRun};
 ghost use Rattle.litmus_walk.specs.Script.{PrintsWalk};
 

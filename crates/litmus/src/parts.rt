@@ -4,7 +4,7 @@ ghost use Rattle.litmus.specs.Tests.{IsOfTest, IsTestNotRun};
 ghost use Rattle.litmus_parts.specs.Sum.{sum_of};
 ghost use Rattle.litmus_rounds.specs.Parts.{IsPartOf, PrintsParts};
 ghost use Rattle.litmus_rounds.specs.Run.{HaveEnded, PrintsWalks};
-ghost use Rattle.litmus_script.specs.Machine.{bound_of};
+ghost use Rattle.mshr_file.specs.Miss.{bound_of};
 ghost use Rattle.mshr_file.specs.Miss.{Bound};
 
 use litmus_outcomes::OutcomeForm;

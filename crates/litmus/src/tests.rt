@@ -4,7 +4,7 @@ ghost use Rattle.litmus_rounds.specs.Run.{PrintsWalks};
 ghost use Rattle.litmus_threads.specs.Run.{IsEndOf};
 ghost use Rattle.litmus_threads.specs.Trace.{IsTraceEnd};
 ghost use Rattle.litmus_walk.specs.Script.{PrintsWalk};
-ghost use Rattle.litmus_script.specs.Machine.{bound_of};
+ghost use Rattle.mshr_file.specs.Miss.{bound_of};
 ghost use Rattle.std.specs.Io.KnownBytes.{Appends};
 ghost use Rattle.litmus_outcomes.specs.declared.form.OutcomeForm.TheVariants as outcome_forms;
 

@@ -3,7 +3,7 @@ ghost use Rattle.std.specs.Prelude.{◌≡◌, ◌⊎◌, ◌<◌, ℕ, List, []
 ghost use Rattle.std.specs.Io.KnownBytes.{Appends};
 ghost use Rattle.litmus.specs.Traces.{HasTraces, HasTracesFault, IsTracedOn, text_of_slice};
 ghost use Rattle.litmus.specs.Traces.{text_of_slices};
-ghost use Rattle.litmus_script.specs.Machine.{bound_of};
+ghost use Rattle.mshr_file.specs.Miss.{bound_of};
 ghost use Rattle.litmus_script.specs.Play.{IsOfRun};
 ghost use Rattle.litmus_script.specs.Script.{IsPlayedUpTo, Plainly, commands_of};
 ghost use Rattle.litmus_threads.specs.Trace.{heading_of};

@@ -3,7 +3,7 @@ ghost use Rattle.std.specs.Prelude.{◌≡◌, ◌⊎◌, ◌-◌, ◌^◌, ℕ,
 ghost use Rattle.litmus.specs.Tests.{IsOfTest, IsTestNotRun};
 ghost use Rattle.litmus.specs.Views.{HasPage, HasPageFault, HasView, HasViewFault};
 ghost use Rattle.litmus.specs.Views.{IsViewCut, IsViewOfPrinted};
-ghost use Rattle.litmus_script.specs.Machine.{bound_of};
+ghost use Rattle.mshr_file.specs.Miss.{bound_of};
 ghost use Rattle.litmus_walk.specs.Script.{PrintsWalk};
 ghost use Rattle.program_run.specs.Run.{IsProgramNotRun, PrintsSchedule, limited_to};
 ghost use Rattle.program_text.specs.Fault.{IsProgramText, programs_of, settings_of};

@@ -2,7 +2,7 @@
 use Rattle.std.proofs.Common.{◌≡◌, ◌⊎◌, ℕ, List, Option, inl, inr, subst}
 use Rattle.address_map.specs.declared.config.Config.{Config}
 use Rattle.litmus_chart.specs.Fault.{Draws, IsChartFault, ChartStopsAt}
-use Rattle.litmus_script.specs.Machine.{bound_of}
+use Rattle.mshr_file.specs.Miss.{bound_of}
 use Rattle.litmus_script.specs.Play.{IsOfRun, PlaysUpTo}
 use Rattle.litmus_script.specs.Script.{IsScript, commands_of}
 use Rattle.litmus_script.specs.declared.script.Script.{Script}

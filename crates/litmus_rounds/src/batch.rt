@@ -4,7 +4,7 @@ ghost use Rattle.litmus_outcomes.specs.Ended.{round_of};
 ghost use Rattle.litmus_outcomes.specs.Table.{IsTableOf};
 ghost use Rattle.litmus_rounds.specs.Outcome.{all_named_requests};
 ghost use Rattle.litmus_rounds.specs.Run.{AreRounds, AreStretches, HaveEnded, IsStretch, rounds_of, seed_of};
-ghost use Rattle.litmus_script.specs.Machine.{bound_of};
+ghost use Rattle.mshr_file.specs.Miss.{bound_of};
 ghost use Rattle.litmus_test.specs.declared.test.LitmusTest.{LitmusTest};
 ghost use Rattle.litmus_walk.specs.Drawn.{lines_of};
 ghost use Rattle.mshr_file.specs.Miss.{Bound};

@@ -3,7 +3,7 @@ ghost use Rattle.std.specs.Io.KnownBytes.{Appends};
 ghost use Rattle.litmus_outcomes.specs.Table.{IsTableOf};
 ghost use Rattle.litmus_rounds.specs.Run.{HaveEnded, PrintsWalks};
 ghost use Rattle.mshr_file.specs.Miss.{Bound};
-ghost use Rattle.litmus_script.specs.Machine.{bound_of};
+ghost use Rattle.mshr_file.specs.Miss.{bound_of};
 ghost use Rattle.litmus_script.specs.Play.{IsOfRun};
 ghost use Rattle.litmus_outcomes.specs.Form.{text_of_gave_up, text_of_outcomes, text_of_stuck};
 

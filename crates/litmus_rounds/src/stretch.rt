@@ -3,7 +3,7 @@ ghost use Rattle.std.specs.Prelude.{◌≡◌, ℕ, ◌+◌, ◌<◌, ◌^◌, L
 ghost use Rattle.litmus_outcomes.specs.Table.{IsTableOf};
 ghost use Rattle.litmus_rounds.specs.Outcome.{IsOutcome, all_named_requests};
 ghost use Rattle.litmus_rounds.specs.Run.{HaveEnded, IsStretch};
-ghost use Rattle.litmus_script.specs.Machine.{bound_of};
+ghost use Rattle.mshr_file.specs.Miss.{bound_of};
 ghost use Rattle.litmus_walk.specs.Drawn.{lines_of};
 
 use super::outcome::read_outcome;

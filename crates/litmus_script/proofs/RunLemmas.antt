@@ -1,7 +1,7 @@
 -- A script that was read is run.
 use Rattle.std.proofs.Common.{ℕ, List, Option, inr}
 use Rattle.litmus_text.specs.declared.fault.TextFault.{TextFault}
-use Rattle.litmus_script.specs.Machine.{bound_of}
+use Rattle.mshr_file.specs.Miss.{bound_of}
 use Rattle.litmus_script.specs.Script.{IsPlayedOn, IsPlayedUpTo, IsRun, IsRunUpTo, IsScript, Playing}
 use Rattle.litmus_script.specs.Script.{commands_of}
 use Rattle.litmus_script.specs.declared.script.Script.{Script}

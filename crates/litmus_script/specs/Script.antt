@@ -14,7 +14,8 @@ use Rattle.litmus_text.specs.declared.statement.Statement.{Statement}
 use Rattle.mshr_file.specs.Miss.{Bound}
 use Rattle.slice_core_plan.specs.Calls.{PartsView}
 use Rattle.litmus_script.specs.Fault.{BeginsAsConfig}
-use Rattle.litmus_script.specs.Machine.{IsNewMachine, bound_of}
+use Rattle.litmus_script.specs.Machine.{IsNewMachine}
+use Rattle.mshr_file.specs.Miss.{bound_of}
 use Rattle.litmus_script.specs.Play.{PlaysAll, PlaysUpTo}
 use Rattle.litmus_script.specs.Prints.{Adds, IsPrinted}
 use Rattle.litmus_script.specs.declared.script.Commands.{Commands}

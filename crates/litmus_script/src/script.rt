@@ -1,7 +1,7 @@
 ghost use Rattle.std.specs.Prelude.{◌≡◌, ◌↔◌, ◌∷◌, IfErr, IfOk, IsTrue, Ok, OnOk, false, map, true};
 ghost use Rattle.std.specs.Str.Lines.{lines};
 ghost use Rattle.address_map.specs.Config.{checked_of};
-ghost use Rattle.litmus_script.specs.Machine.{bound_of};
+ghost use Rattle.mshr_file.specs.Miss.{bound_of};
 ghost use Rattle.litmus_script.specs.Play.{IsCommandFault, PlaysAll, PlaysOne, PlaysUpTo};
 ghost use Rattle.litmus_script.specs.Fault.{BeginsAsConfig, IsFaultBehind};
 ghost use Rattle.litmus_script.specs.Script.{BeginOtherwise, IsConfigured, IsLineFault, IsNotConfigured, IsReadAs};

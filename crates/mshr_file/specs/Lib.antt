@@ -1,3 +1,4 @@
+pub mod Either
 pub mod Miss
 pub mod Register
 pub mod Waiting

@@ -19,7 +19,7 @@
 //! - [`InvertedFile`] has an entry for each tag of the core, their inverted organisation, and so it has room whenever
 //!   the tag is free.
 //!
-//! [`MissKind`] names one of them.
+//! [`MissKind`] names one of them, and [`EitherFile`] is one of either kind.
 //!
 //! Only [`MissFile::make`] and [`MissFile::lines`] take memory: registers and their rows are in boxed slices, which
 //! have no call that lets them grow, and entries lie in the value. A call searches a row of 16 bytes for each register
@@ -31,6 +31,7 @@
 #![tactic(auto)]
 
 pub use admission::Admission;
+pub use either::EitherFile;
 pub use explicit::ExplicitFile;
 pub use inverted::InvertedFile;
 pub use kind::MissKind;
@@ -39,6 +40,7 @@ pub use target_list::Target;
 pub use waiting::Waiting;
 
 mod admission;
+mod either;
 mod entry_table;
 mod explicit;
 mod inverted;

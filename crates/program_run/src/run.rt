@@ -1,7 +1,7 @@
 ghost use Rattle.std.specs.Prelude.{◌≡◌, ◌<◌, ◌%◌, [], IfErr, IfNone, IfOk, IfSome, OnOk, Some};
 ghost use Rattle.std.specs.Fmt.{WritesInCalls};
 ghost use Rattle.std.specs.Io.KnownBytes.{Appends};
-ghost use Rattle.litmus_script.specs.Machine.{bound_of};
+ghost use Rattle.mshr_file.specs.Miss.{bound_of};
 ghost use Rattle.program_text.specs.Fault.{IsProgramText, programs_of, settings_of};
 ghost use Rattle.program_text.specs.declared.programs.Programs.{Programs};
 ghost use Rattle.litmus_script.specs.Play.{IsOfRun};

@@ -4,7 +4,7 @@ use Rattle.std.specs.Prelude.{slice_index_or}
 use Rattle.std.specs.Io.KnownBytes.{Appends}
 use Rattle.std.specs.List.{concat}
 use Rattle.std.specs.Str.Lines.{lines}
-use Rattle.litmus_script.specs.Machine.{bound_of}
+use Rattle.mshr_file.specs.Miss.{bound_of}
 use Rattle.litmus_text.specs.declared.fault.TextFault.TheVariants as text_faults
 use Rattle.program_run.specs.Run.{limited_to}
 use Rattle.program_run.specs.Sums.{IsCounted}

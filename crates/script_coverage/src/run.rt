@@ -1,7 +1,8 @@
 //! A script's run, counted.
 ghost use Rattle.std.specs.Prelude.{◌≡◌, ◌⊎◌, ℕ, List, [], Option, Some, IfErr, IfOk, map};
 ghost use Rattle.std.specs.Str.Lines.{lines};
-ghost use Rattle.litmus_script.specs.Machine.{IsNewMachine, bound_of};
+ghost use Rattle.litmus_script.specs.Machine.{IsNewMachine};
+ghost use Rattle.mshr_file.specs.Miss.{bound_of};
 ghost use Rattle.litmus_script.specs.Play.{IsOfRun};
 ghost use Rattle.litmus_script.specs.Script.{IsPlayedOn, IsPlayedUpTo, commands_of};
 ghost use Rattle.litmus_text.specs.Statement.{statements_from};

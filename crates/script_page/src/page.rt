@@ -3,7 +3,8 @@ ghost use Rattle.std.specs.Prelude.{◌≡◌, ◌⊎◌, List, [], true, IfErr,
 ghost use Rattle.std.specs.Fmt.{WritesInCalls};
 ghost use Rattle.std.specs.Io.KnownBytes.{Appends};
 ghost use Rattle.std.specs.Str.Lines.{lines};
-ghost use Rattle.litmus_script.specs.Machine.{IsNewMachine, bound_of};
+ghost use Rattle.litmus_script.specs.Machine.{IsNewMachine};
+ghost use Rattle.mshr_file.specs.Miss.{bound_of};
 ghost use Rattle.litmus_script.specs.Play.{IsOfRun};
 ghost use Rattle.litmus_script.specs.Script.{commands_of};
 ghost use Rattle.litmus_text.specs.Statement.{statements_from};

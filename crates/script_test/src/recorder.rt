@@ -1,6 +1,6 @@
 ghost use Rattle.std.specs.Prelude.{◌≡◌, List, ℕ, Option, Some, [], IfErr, IfOk, map};
 ghost use Rattle.std.specs.Str.Lines.{lines};
-ghost use Rattle.litmus_script.specs.Machine.{bound_of};
+ghost use Rattle.mshr_file.specs.Miss.{bound_of};
 ghost use Rattle.litmus_script.specs.Script.{IsPlayedUpTo, IsRunUpTo, commands_of};
 ghost use Rattle.litmus_text.specs.Statement.{statements_from};
 ghost use Rattle.script_test.specs.Answers.{Answering, AreAnswered, AreAnswers};

@@ -1,7 +1,8 @@
 -- A quiet slice that begins a new log is sound, and shows what a slice does of which nothing was asked yet.
-use Rattle.std.proofs.Common.{◌≡◌, ℕ, zero, suc, ◌+◌, ◌%◌, ◌^◌, ◌<◌, ◌≤◌, List, [], ◌∷◌, length, map, get_or, None}
+use Rattle.std.proofs.Common.{◌≡◌, ℕ, zero, suc, ◌+◌, ◌%◌, ◌^◌, ◌<◌, ◌≤◌, Bool, false, List, [], ◌∷◌, length, map, get_or}
+use Rattle.std.proofs.Common.{None}
 use Rattle.std.proofs.Common.{arith, refl, sym, ap, ◌∙◌, subst, ⊎_elim}
-use Rattle.std.specs.Prelude.{nat_lt, sum_by, slice_index, Contains, IfSome, IsSome}
+use Rattle.std.specs.Prelude.{if◌then◌else◌, nat_lt, sum_by, slice_index, Contains, IfSome, IsSome}
 use Rattle.std.proofs.lemmas.Bool.{cases_lt, le-ltb}
 use Rattle.std.proofs.lemmas.List.{get_or-replicate, get_or_past, length-map, length-replicate}
 use Rattle.std.proofs.lemmas.List.Elements.{All-get_or, All-nil}
@@ -28,7 +29,6 @@ use Rattle.slice_core_plan.specs.View.{no_cache, word_now}
 use Rattle.slice_core_steps.specs.NewLog.{with_new_log, words_now}
 use Rattle.slice_core_theory.proofs.BlocksFrame.{reached_as}
 use Rattle.slice_core_theory.proofs.Kept.{Free_apart}
-use Rattle.slice_core_theory.proofs.Lists.{none}
 use Rattle.slice_core_theory.proofs.QuietNewest.{quiet_newest}
 use Rattle.slice_core_theory.proofs.Requests.{none-contained}
 use Rattle.slice_core_theory.specs.Blocks.{AreReachedWith, HasValues, LineReachedWith}
@@ -82,6 +82,9 @@ kept-recounted cache kept = record {
   leaving = kept.leaving;
 }
 
+uncounted : (b : Bool) → b ≡ false → (if b then 1 else 0) ≡ 0
+uncounted b fails = rw fails refl
+
 -- Where nothing waits and each reply was handed out, nothing is left to account for.
 account-anew : (lines : Lines) (log : List Entry) (core : ℕ) (misses : List Register) (states : List TagState)
     (accepted : ℕ) → misses ≡ [] → IsLeastReply states None → IsAccount lines log core misses states accepted
@@ -92,7 +95,7 @@ account-anew lines log core misses states accepted is_none none_left account =
   where
     by : IsAccount lines log core [] states accepted → IsAccount lines [] core [] states 0
     by account = record {
-      standing = record { once = λ seq. sym (none (nat_lt seq 0) (le-ltb seq 0 (omega arith))); counted = refl };
+      standing = record { once = λ seq. sym (uncounted (nat_lt seq 0) (le-ltb seq 0 (omega arith))); counted = refl };
       waits = record { file = account.waits.file; performable = refl; asked = refl };
       tags = record {
         sized = account.tags.sized;

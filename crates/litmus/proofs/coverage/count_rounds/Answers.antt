@@ -1,6 +1,6 @@
 use Rattle.std.proofs.Common.{◌≡◌, ◌+◌, suc, arith, subst}
 use Rattle.litmus.specs.Coverage.{AreCountsOfRounds}
-use Rattle.litmus_script.specs.Machine.{bound_of}
+use Rattle.mshr_file.specs.Miss.{bound_of}
 use Rattle.litmus.proofs.coverage.count_rounds.Goals as goal
 
 pub loop-round-preserved : goal.loop-round-preserved

@@ -1,5 +1,5 @@
 use Rattle.litmus.specs.Coverage.{AreCountsOfRounds}
-use Rattle.litmus_script.specs.Machine.{bound_of}
+use Rattle.mshr_file.specs.Miss.{bound_of}
 use Rattle.litmus.proofs.coverage.count_rounds.Given as goal
 
 abbrev pub invariant-loop-round : goal.invariant-loop-round

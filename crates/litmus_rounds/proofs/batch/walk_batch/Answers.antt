@@ -2,7 +2,7 @@ use Rattle.std.proofs.Common.{◌*◌, arith, subst, sym, ◌∙◌}
 use mathlib.Core.Bool.{true≢false}
 use Rattle.std.specs.Prelude.{IfOk}
 use Rattle.std.proofs.lemmas.Result.{IfOk-weaker}
-use Rattle.litmus_script.specs.Machine.{bound_of}
+use Rattle.mshr_file.specs.Miss.{bound_of}
 use Rattle.litmus_rounds.specs.Run.{AreRounds, HaveEnded, IsStretch, seed_of}
 use Rattle.litmus_rounds.proofs.RoundLemmas.{ended_early, ended_fits, next_place, place_fits, seed_behind}
 use Rattle.litmus_rounds.proofs.batch.walk_batch.Goals as goal

@@ -1,5 +1,5 @@
 use Rattle.std.proofs.Common.{◌+◌, ◌*◌}
-use Rattle.litmus_script.specs.Machine.{bound_of}
+use Rattle.mshr_file.specs.Miss.{bound_of}
 use Rattle.litmus_rounds.specs.Run.{AreRounds}
 use Rattle.litmus_rounds.proofs.batch.walk_batch.Given as goal
 

@@ -1,5 +1,5 @@
 use Rattle.std.proofs.Common.{arith, inl, sym}
-use Rattle.litmus_script.specs.Machine.{bound_of}
+use Rattle.mshr_file.specs.Miss.{bound_of}
 use Rattle.litmus_rounds.proofs.PartLemmas.{known_at, printed_last, printed_next, printed_none}
 use Rattle.litmus_rounds.proofs.parts.print_parts.Goals as goal
 use Rattle.litmus_rounds.specs.Parts.{IsPartOf}

@@ -1,5 +1,5 @@
 use Rattle.std.proofs.Common.{◌-◌, ◌≤◌, All}
-use Rattle.litmus_script.specs.Machine.{bound_of}
+use Rattle.mshr_file.specs.Miss.{bound_of}
 use Rattle.litmus_rounds.specs.Parts.{ArePrinted, IsPartOf}
 use Rattle.litmus_rounds.proofs.parts.print_parts.Given as goal
 

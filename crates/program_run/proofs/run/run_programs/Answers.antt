@@ -1,6 +1,6 @@
 use Rattle.std.proofs.Common.{ℕ}
 use Rattle.std.proofs.lemmas.Result.{IfOk-weaker}
-use Rattle.litmus_script.specs.Machine.{bound_of}
+use Rattle.mshr_file.specs.Miss.{bound_of}
 use Rattle.program_text.specs.Fault.{IsProgramText, programs_of, settings_of}
 use Rattle.program_text.specs.declared.programs.Programs.{Programs}
 use Rattle.program_run.specs.Run.{IsProgramsRun, limited_to}

@@ -61,8 +61,25 @@ impl<F: MissFile> SliceState<F> {
         ensures machine { IfOk result (λ p. IsSame new_small_machine (small_machine_of p.view)) }
         ensures holds { IfOk result Holds }
     {
+        let empty = F::make(alloc, config)?;
+        Self::build_like(alloc, config, slice, &empty)
+    }
+
+    /// The same, but that its cores keep their misses in files like this one, which has none.
+    pub fn build_like(
+        alloc: Global,
+        config: &Checked,
+        slice: SliceId,
+        empty: &F,
+    ) -> Result<Self, AllocError>
+        requires slice { slice.0 < config.now.slices }
+        requires empty { F.misses empty.now ≡ [] }
+        ensures new { IfOk result (IsNew config.now (F.bound empty.now) slice) }
+        ensures machine { IfOk result (λ p. IsSame new_small_machine (small_machine_of p.view)) }
+        ensures holds { IfOk result Holds }
+    {
         Ok(SliceState {
-            parts: Parts::new(alloc, config, slice)?,
+            parts: Parts::new(alloc, config, slice, empty)?,
         })
     }
 

@@ -1,4 +1,4 @@
-ghost use Rattle.std.specs.Prelude.{◌≡◌, ◌<◌, ◌↔◌, IfOk, IsTrue};
+ghost use Rattle.std.specs.Prelude.{◌≡◌, ◌<◌, ◌↔◌, [], IfOk, IsTrue};
 
 use super::copy::CacheCopy;
 use super::tags::{TagState, Tags};
@@ -50,19 +50,21 @@ impl<F: MissFile> CoreCache<F> {
     ghost use Rattle.slice_core_cache.specs.CoreCache.{new_cache, copy_of, recounted, tag_at, IsCoreCacheQuiet};
     ghost use Rattle.slice_core_cache.specs.Steps.{AfterHand};
 
-    /// A core that has asked for nothing yet. It takes all the memory that it will ever need.
-    pub fn make(
+    /// A core that has asked for nothing yet, and keeps its misses in this file, which has none. It takes all the memory
+    /// that it will ever need.
+    pub fn with_file(
         alloc: Global,
         config: &Checked,
         slice: SliceId,
         core: CoreId,
+        file: F,
     ) -> Result<Self, AllocError>
-        requires { (slice.0 < 4) × (core.0 < 64) }
-        ensures { IfOk result (λ cache. cache ≡ new_cache config.now (F.bound_by config.now) slice.0 core.0) }
+        requires named { (slice.0 < 4) × (core.0 < 64) }
+        requires empty { F.misses file ≡ [] }
+        ensures { IfOk result (λ cache. cache ≡ new_cache config.now (F.bound file) slice.0 core.0) }
     {
         let policy = config.policy();
         let array = CacheArray::make(alloc, config, policy)?;
-        let file = F::make(alloc, config)?;
         let seed = match policy {
             PolicyKind::Random(seed) => {
                 let stream = 64 * u64::from(slice.0) + u64::from(core.0);

@@ -21,14 +21,21 @@ use std::alloc::{AllocError, Global};
 use std::boxed::BoxedSlice;
 
 impl<F: MissFile> Parts<F> {
-    /// A slice of the configured machine in which nothing was asked for yet.
-    pub fn new(alloc: Global, config: &Checked, slice: SliceId) -> Result<Self, AllocError>
-        requires { slice.0 < config.now.slices }
-        ensures { IfOk result (IsNew config.now (F.bound_by config.now) slice) }
+    /// A slice of the configured machine in which nothing was asked for yet, and whose cores keep their misses in files
+    /// like this one, which has none.
+    pub fn new(
+        alloc: Global,
+        config: &Checked,
+        slice: SliceId,
+        empty: &F,
+    ) -> Result<Self, AllocError>
+        requires slice { slice.0 < config.now.slices }
+        requires empty { F.misses empty.now ≡ [] }
+        ensures { IfOk result (IsNew config.now (F.bound empty.now) slice) }
     {
         let lines = Locator::of(config, slice);
         let (entries, queues) = new_lines(alloc, config, lines)?;
-        let (caches, stats) = new_cores(alloc, config, slice)?;
+        let (caches, stats) = new_cores(alloc, config, slice, empty)?;
         let (init, counters) = configured_words(alloc, config, slice)?;
         Ok(Parts {
             entries,
@@ -128,13 +135,15 @@ fn new_cores<F: MissFile>(
     alloc: Global,
     config: &Checked,
     slice: SliceId,
+    empty: &F,
 ) -> Result<(BoxedSlice<CoreCache<F>>, Stats), AllocError>
-    requires { slice.0 < config.now.slices }
-    ensures caches { IfOk result (λ made. AreNewCaches config.now (F.bound_by config.now) slice.0 config.now.cores
+    requires slice { slice.0 < config.now.slices }
+    requires empty { F.misses empty.now ≡ [] }
+    ensures caches { IfOk result (λ made. AreNewCaches config.now (F.bound empty.now) slice.0 config.now.cores
         (boxed_slice_items made.0)) }
     ensures stats { IfOk result (λ made. made.1 ≡ no_stats config.now.cores config.now.exclusive) }
 {
-    let caches = new_caches(alloc, config, slice)?;
+    let caches = new_caches(alloc, config, slice, empty)?;
     let stats = Stats::new(alloc, config.cores(), config.exclusive())?;
     Ok((caches, stats))
 }
@@ -219,14 +228,17 @@ fn new_caches<F: MissFile>(
     alloc: Global,
     config: &Checked,
     slice: SliceId,
+    empty: &F,
 ) -> Result<BoxedSlice<CoreCache<F>>, AllocError>
-    requires { slice.0 < config.now.slices }
-    ensures { IfOk result (λ v. AreNewCaches config.now (F.bound_by config.now) slice.0 config.now.cores
+    requires slice { slice.0 < config.now.slices }
+    requires empty { F.misses empty.now ≡ [] }
+    ensures { IfOk result (λ v. AreNewCaches config.now (F.bound empty.now) slice.0 config.now.cores
         (boxed_slice_items v)) }
 {
     let mut all = Vec::with_capacity(alloc, config.cores())?;
     for core in 0..config.cores() {
-        all.push(CoreCache::make(alloc, config, slice, CoreId(core as u8))?)?;
+        let file = empty.try_clone(alloc)?;
+        all.push(CoreCache::with_file(alloc, config, slice, CoreId(core as u8), file)?)?;
     }
     Ok(all.into_boxed_slice())
 }

@@ -1,16 +1,6 @@
-use Rattle.slice_core.proofs.Coherent.{holds}
-use Rattle.slice_core.proofs.SoundBegin.{sound-begins}
+use Rattle.std.proofs.Common.{subst}
+use Rattle.slice_core_plan.specs.Calls.{IsNew}
 use Rattle.slice_core.proofs.state.SliceState.build.Goals as goal
-use Rattle.slice_core_theory.proofs.MachineBeginning.{new_shows}
 
-pub invariant_of-result : goal.invariant_of-result
-invariant_of-result g c =
-    sound-begins c.args.config.now _ c.args.slice c.in_ok-new.field-0 c.in_ok-new.ensures c.requires
-
-pub returns-clause-machine : goal.returns-clause-machine
-returns-clause-machine g c = new_shows c.args.config.now _ c.args.slice c.in_ok-new.field-0 c.in_ok-new.ensures
-
-pub returns-clause-holds : goal.returns-clause-holds
-returns-clause-holds g c =
-    holds c.in_ok-new.field-0
-    (sound-begins c.args.config.now _ c.args.slice c.in_ok-new.field-0 c.in_ok-new.ensures c.requires)
+pub returns-clause-new : goal.returns-clause-new
+returns-clause-new g c = rw c.in_ok-make.ensures.bound at c.build_like.ensures.new

@@ -12,7 +12,6 @@ use address_map::{Checked, SliceId};
 use litmus_script::{Commands, Machine, Script, TextWriter, written};
 use litmus_text::{Command, TextFault};
 use litmus_threads::write_heading;
-use mshr_file::{ExplicitFile, InvertedFile, MissFile, MissKind};
 use std::alloc::Global;
 use std::io::Write;
 
@@ -47,25 +46,7 @@ fn trace_script<W: Write>(alloc: Global, script: Script<'_>, out: &mut W) -> Res
         misses,
         commands,
     } = script;
-    match misses {
-        MissKind::Explicit => trace_on::<ExplicitFile, W>(alloc, config, commands, out),
-        MissKind::Inverted => trace_on::<InvertedFile, W>(alloc, config, commands, out),
-    }
-}
-
-/// .. on a new machine with miss registers of type `F`, whose answers nobody reads.
-fn trace_on<F: MissFile, W: Write>(
-    alloc: Global,
-    config: Checked,
-    commands: Commands<'_>,
-    out: &mut W,
-) -> Result<(), TextFault>
-    ensures traced { OnOk result (IsTracedOn config (F.bound_by config)
-        (commands_of commands.entry) (W.contents out.old) (W.contents out.new)) }
-    ensures fault { IfErr result (λ fault. IsOfRun fault ⊎ ((after : Option (List ℕ))
-        × IsPlayedUpTo Plainly config (F.bound_by config) (commands_of commands.entry) (Some []) after fault)) }
-{
-    let mut machine: Machine<F> = Machine::build(alloc, config)?;
+    let mut machine = Machine::build(alloc, config, misses)?;
     let mut answers = Vec::new(alloc);
     match commands.play(&mut machine, &mut answers) {
         Ok(()) => write_logs(&mut machine, out),
@@ -76,7 +57,7 @@ fn trace_on<F: MissFile, W: Write>(
 }
 
 /// Writes the log of each slice as a trace.
-fn write_logs<F: MissFile, W: Write>(machine: &mut Machine<F>, out: &mut W) -> Result<(), TextFault>
+fn write_logs<W: Write>(machine: &mut Machine, out: &mut W) -> Result<(), TextFault>
     ensures written { OnOk result (Appends (W.contents out.old) (W.contents out.new)
         (text_of_slices machine.old.config machine.old.slices.items machine.old.config.slices)) }
     ensures fault { IfErr result IsOfRun }
@@ -87,11 +68,7 @@ fn write_logs<F: MissFile, W: Write>(machine: &mut Machine<F>, out: &mut W) -> R
     Ok(())
 }
 
-fn write_log<F: MissFile, W: Write>(
-    machine: &mut Machine<F>,
-    slice: SliceId,
-    out: &mut W,
-) -> Result<(), TextFault>
+fn write_log<W: Write>(machine: &mut Machine, slice: SliceId, out: &mut W) -> Result<(), TextFault>
     requires { slice.0 < machine.old.config.slices }
     ensures config { machine.new.config ≡ machine.old.config }
     ensures slices { OnOk result (machine.new.slices.items ≡ machine.old.slices.items) }

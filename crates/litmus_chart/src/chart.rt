@@ -16,7 +16,7 @@ use litmus_script::{
     write_evicted, write_handed, write_issued, write_pumped, written,
 };
 use litmus_text::{Command, Settings, Statement, TextFault};
-use mshr_file::{ExplicitFile, InvertedFile, MissFile, MissKind};
+use mshr_file::MissKind;
 use slice_core::{Class, Delivered, DeliveredNext, Pick};
 use std::alloc::Global;
 use std::fmt;
@@ -56,27 +56,12 @@ fn chart_of<W: Write>(
     ensures fault { IfErr result
         (λ fault. IsOfRun fault ⊎ ChartStopsAt script.entry.config (commands_of script.entry.commands) fault) }
 {
-    match script.misses {
-        MissKind::Explicit => chart_on::<ExplicitFile, W>(alloc, script, out),
-        MissKind::Inverted => chart_on::<InvertedFile, W>(alloc, script, out),
-    }
-}
-
-/// Draws a script on a machine with miss registers of type `F`.
-fn chart_on<F: MissFile, W: Write>(
-    alloc: Global,
-    script: Script<'_>,
-    out: &mut TextWriter<'_, W>,
-) -> Result<(), TextFault>
-    ensures fault { IfErr result
-        (λ fault. IsOfRun fault ⊎ ChartStopsAt script.entry.config (commands_of script.entry.commands) fault) }
-{
     let Script {
         config,
+        misses,
         commands,
-        ..
     } = script;
-    let mut chart: Chart<F> = Chart::new(alloc, config)?;
+    let mut chart = Chart::new(alloc, config, misses)?;
     written(write_participants(chart.config(), out))?;
     commands.play(&mut chart, out.out)
 }
@@ -98,13 +83,13 @@ fn note_issued<W: Write>(
 
 /// A player that draws what each command does.
 #[derive(Drop)]
-struct Chart<F: MissFile> {
-    machine: Machine<F>,
+struct Chart {
+    machine: Machine,
     picture: Picture,
     alloc: Global,
 }
 
-impl<F: MissFile> Player for Chart<F> {
+impl Player for Chart {
     ghost config_of = { λ chart. chart.machine.config };
 
     // What is drawn isn't said.
@@ -134,7 +119,7 @@ impl<F: MissFile> Player for Chart<F> {
     }
 }
 
-impl<F: MissFile> Deliverer for Chart<F> {
+impl Deliverer for Chart {
     ghost config_of = { λ chart. chart.machine.config };
 
     // What is drawn isn't said.
@@ -160,13 +145,13 @@ impl<F: MissFile> Deliverer for Chart<F> {
     }
 }
 
-impl<F: MissFile> Chart<F> {
-    fn new(alloc: Global, config: Checked) -> Result<Self, TextFault>
+impl Chart {
+    fn new(alloc: Global, config: Checked, misses: MissKind) -> Result<Self, TextFault>
         ensures config { IfOk result (λ chart. chart.machine.config ≡ config) }
         ensures fault { IfErr result IsOfRun }
     {
         Ok(Chart {
-            machine: Machine::build(alloc, config)?,
+            machine: Machine::build(alloc, config, misses)?,
             picture: Picture::new(alloc),
             alloc,
         })

@@ -8,7 +8,6 @@ use super::seen::{Flight, Seen};
 use address_map::{CoreId, LineAddr};
 use litmus_script::{Machine, TextWriter, written};
 use litmus_text::TextFault;
-use mshr_file::MissFile;
 use slice_core::{CoreLines, ForwardedMessage, Message, Pick};
 use std::alloc::Global;
 use std::fmt;
@@ -39,10 +38,10 @@ impl Picture {
 
     /// What an access of a core can change: the line itself, and those of its set in the core's array, of which one may
     /// have to leave for it.
-    pub fn look<F: MissFile>(
+    pub fn look(
         &self,
         alloc: Global,
-        machine: &Machine<F>,
+        machine: &Machine,
         core: CoreId,
         line: LineAddr,
     ) -> Result<Vec<Seen>, TextFault>
@@ -68,9 +67,9 @@ impl Picture {
 
     /// Draws what an access of a core changed: the line itself, and the one that had to leave for it, in the order in
     /// which they were first asked for. Before that these were looked at, the line first.
-    pub fn write_access<F: MissFile, W: Write>(
+    pub fn write_access<W: Write>(
         &self,
-        now: &Machine<F>,
+        now: &Machine,
         core: CoreId,
         before: &[Seen],
         out: &mut TextWriter<'_, W>,
@@ -119,9 +118,9 @@ impl Picture {
     }
 
     /// Draws a message that was delivered, and what that changed.
-    pub fn deliver<F: MissFile, W: Write>(
+    pub fn deliver<W: Write>(
         &mut self,
-        now: &Machine<F>,
+        now: &Machine,
         flight: &Flight,
         out: &mut TextWriter<'_, W>,
     ) -> Result<(), TextFault>
@@ -178,9 +177,9 @@ fn note(seen: &mut Vec<Seen>, one: Seen) -> Result<(), TextFault>
 }
 
 /// The lines of the line's set in the core's array.
-fn set_of<F: MissFile>(
+fn set_of(
     alloc: Global,
-    machine: &Machine<F>,
+    machine: &Machine,
     core: CoreId,
     line: LineAddr,
 ) -> Result<Vec<LineAddr>, TextFault>
@@ -194,11 +193,7 @@ fn set_of<F: MissFile>(
 }
 
 /// The line that last left the core in the slice of this one.
-fn last_written_back<F: MissFile>(
-    machine: &Machine<F>,
-    core: CoreId,
-    line: LineAddr,
-) -> Option<LineAddr>
+fn last_written_back(machine: &Machine, core: CoreId, line: LineAddr) -> Option<LineAddr>
     requires { HasCore machine.now.config core }
 {
     let slice = machine.slice_of(line);

@@ -3,7 +3,6 @@ use super::arrow::{Participant, receiver};
 use super::note::write_changes;
 use address_map::LineAddr;
 use litmus_script::Machine;
-use mshr_file::MissFile;
 use slice_core::{LineView, Message, Pick};
 use std::fmt;
 use std::fmt::Write;
@@ -17,7 +16,7 @@ pub struct Seen {
 }
 
 impl Seen {
-    pub fn of<F: MissFile>(machine: &Machine<F>, line: LineAddr) -> Self {
+    pub fn of(machine: &Machine, line: LineAddr) -> Self {
         Seen {
             line,
             view: machine.view(line),
@@ -25,11 +24,7 @@ impl Seen {
     }
 
     /// Draws what is different of the line now.
-    pub fn write_change<F: MissFile, W: Write>(
-        &self,
-        now: &Machine<F>,
-        out: &mut W,
-    ) -> fmt::Result {
+    pub fn write_change<W: Write>(&self, now: &Machine, out: &mut W) -> fmt::Result {
         if let (Some(before), Some(after)) = (&self.view, &now.view(self.line)) {
             let directory = Participant::Directory(now.slice_of(self.line));
             write_changes(directory, self.line, before, after, out)?;
@@ -49,7 +44,7 @@ pub struct Flight {
 }
 
 impl Flight {
-    pub fn of<F: MissFile>(machine: &Machine<F>, pick: Pick) -> Self {
+    pub fn of(machine: &Machine, pick: Pick) -> Self {
         let line = pick.line();
         Flight {
             pick,

@@ -8,7 +8,6 @@ use address_map::{CoreId, CoreSet, LineAddr, WordAddr};
 use arrayvec::ArrayVec;
 use litmus_script::Machine;
 use litmus_text::{Command, TextFault};
-use mshr_file::MissFile;
 use slice_core::{Cell, CopyState, DirState, Entry, Message, Pick, Plan, Refused, Stall};
 use std::alloc::Global;
 use std::fmt;
@@ -221,11 +220,7 @@ impl SpaceTime {
     }
 
     /// Notes what a row changed: states, and accesses that were performed.
-    pub fn observe<F: MissFile>(
-        &mut self,
-        machine: &Machine<F>,
-        row: usize,
-    ) -> Result<(), TextFault>
+    pub fn observe(&mut self, machine: &Machine, row: usize) -> Result<(), TextFault>
         ensures fault { IfErr result IsOfRun }
     {
         let Some(line) = self.line else {
@@ -275,9 +270,9 @@ impl SpaceTime {
         }
     }
 
-    fn note_performed<F: MissFile>(
+    fn note_performed(
         &mut self,
-        machine: &Machine<F>,
+        machine: &Machine,
         line: LineAddr,
         row: usize,
     ) -> Result<(), TextFault>
@@ -299,7 +294,7 @@ impl SpaceTime {
     }
 
     /// Names the messages that are in flight in front of their channels.
-    pub fn name_open<F: MissFile>(&mut self, machine: &Machine<F>) {
+    pub fn name_open(&mut self, machine: &Machine) {
         for place in 0..self.open.len() {
             let Some(number) = self.open.get(place).copied() else {
                 return;

@@ -17,7 +17,6 @@ use litmus_script::{
     Commands, Deliverer, Issued, Machine, Player, Script, TextWriter, pump_slices, written,
 };
 use litmus_text::{Command, Statement, TextFault};
-use mshr_file::{ExplicitFile, InvertedFile, MissFile, MissKind};
 use slice_core::{Class, DeliveredNext, Message, Pick, Plan, Transition};
 use std::alloc::Global;
 use std::io::Write;
@@ -73,24 +72,7 @@ fn draw_script<W: Write>(
         misses,
         commands,
     } = script;
-    match misses {
-        MissKind::Explicit => draw_on::<ExplicitFile, W>(alloc, config, commands, space, out),
-        MissKind::Inverted => draw_on::<InvertedFile, W>(alloc, config, commands, space, out),
-    }
-}
-
-/// Draws commands on a machine with miss registers of type `F`.
-fn draw_on<F: MissFile, W: Write>(
-    alloc: Global,
-    config: Checked,
-    commands: Commands<'_>,
-    space: SpaceTime,
-    out: &mut W,
-) -> Result<(), TextFault>
-    ensures fault { IfErr result
-        (λ fault. IsOfRun fault ⊎ ChartStopsAt config (commands_of commands.entry) fault) }
-{
-    let machine: Machine<F> = Machine::build(alloc, config)?;
+    let machine = Machine::build(alloc, config, misses)?;
     let mut recorder = Recorder { machine, space };
     match commands.play(&mut recorder, out) {
         Ok(()) => recorder.draw(out),
@@ -104,12 +86,12 @@ fn draw_on<F: MissFile, W: Write>(
 
 /// A player that records what each command does to the line.
 #[derive(Drop)]
-struct Recorder<F: MissFile> {
-    machine: Machine<F>,
+struct Recorder {
+    machine: Machine,
     space: SpaceTime,
 }
 
-impl<F: MissFile> Player for Recorder<F> {
+impl Player for Recorder {
     ghost config_of = { λ recorder. recorder.machine.config };
 
     // What is drawn isn't said.
@@ -142,7 +124,7 @@ impl<F: MissFile> Player for Recorder<F> {
     }
 }
 
-impl<F: MissFile> Deliverer for Recorder<F> {
+impl Deliverer for Recorder {
     ghost config_of = { λ recorder. recorder.machine.config };
 
     // What is drawn isn't said.
@@ -180,7 +162,7 @@ struct Flight {
     asked: bool,
 }
 
-impl<F: MissFile> Recorder<F> {
+impl Recorder {
     fn draw<W: Write>(&mut self, out: &mut W) -> Result<(), TextFault>
         ensures fault { IfErr result IsOfRun }
     {

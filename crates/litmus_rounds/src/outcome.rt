@@ -4,15 +4,14 @@ ghost use Rattle.litmus_rounds.specs.Outcome.{AddsMatch, HasReply, HasWord, IsOu
 use litmus_outcomes::NamedRequest;
 use litmus_test::LitmusTest;
 use litmus_walk::Recorded;
-use mshr_file::MissFile;
 use std::alloc::AllocError;
 
 /// Writes the outcome of a walk to `values`: the replies of all named steps, and then the counters' values. There is
 /// none before the walk is over.
-pub(crate) fn read_outcome<F: MissFile>(
+pub(crate) fn read_outcome(
     test: &LitmusTest<'_>,
     named_requests: &[Option<NamedRequest>],
-    recorded: &Recorded<F>,
+    recorded: &Recorded,
     values: &mut Vec<u64>,
 ) -> Result<bool, AllocError>
     requires config { recorded.now.config ≡ test.now.config }
@@ -30,9 +29,9 @@ pub(crate) fn read_outcome<F: MissFile>(
 }
 
 // The replies that are sought, in order.
-fn read_replies<F: MissFile>(
+fn read_replies(
     named_requests: &[Option<NamedRequest>],
-    recorded: &Recorded<F>,
+    recorded: &Recorded,
     values: &mut Vec<u64>,
 ) -> Result<bool, AllocError>
     requires { values.old.items ≡ [] }
@@ -49,7 +48,7 @@ fn read_replies<F: MissFile>(
     Ok(true)
 }
 
-fn reply_to<F: MissFile>(request: &Option<NamedRequest>, recorded: &Recorded<F>) -> Option<u64>
+fn reply_to(request: &Option<NamedRequest>, recorded: &Recorded) -> Option<u64>
     ensures reply { IfSome result (HasReply recorded.now.slices request.now) }
     ensures none { IfNone result (LacksReply recorded.now.slices request.now) }
 {
@@ -65,9 +64,9 @@ fn reply_to<F: MissFile>(request: &Option<NamedRequest>, recorded: &Recorded<F>)
 }
 
 // Adds the counters' values, in order.
-fn read_counters<F: MissFile>(
+fn read_counters(
     test: &LitmusTest<'_>,
-    recorded: &Recorded<F>,
+    recorded: &Recorded,
     values: &mut Vec<u64>,
 ) -> Result<bool, AllocError>
     requires { recorded.now.config ≡ test.now.config }

@@ -11,7 +11,6 @@ use address_map::LineAddr;
 use litmus_outcomes::{Ended, NamedRequest, Outcomes};
 use litmus_test::LitmusTest;
 use litmus_walk::{End, Walked, walk};
-use mshr_file::{ExplicitFile, InvertedFile, MissFile, MissKind};
 use std::alloc::{AllocError, Global};
 
 /// The outcomes of consecutive rounds, up to one that has none.
@@ -35,31 +34,8 @@ pub(crate) fn walk_stretch(
     requires named_requests { named_requests.now ≡ all_named_requests test.now }
     ensures { IfOk result (IsStretch test.now (bound_of test.now.misses test.now.config) seed most count) }
 {
-    match test.misses {
-        MissKind::Explicit => {
-            walk_on::<ExplicitFile>(alloc, test, lines, named_requests, seed, count, most)
-        }
-        MissKind::Inverted => {
-            walk_on::<InvertedFile>(alloc, test, lines, named_requests, seed, count, most)
-        }
-    }
-}
-
-fn walk_on<F: MissFile>(
-    alloc: Global,
-    test: &LitmusTest<'_>,
-    lines: &[LineAddr],
-    named_requests: &[Option<NamedRequest>],
-    seed: u64,
-    count: u64,
-    most: u64,
-) -> Result<Stretch, AllocError>
-    requires lines { lines.now ≡ lines_of test.now }
-    requires named_requests { named_requests.now ≡ all_named_requests test.now }
-    ensures { IfOk result (IsStretch test.now (F.bound_by test.now.config) seed most count) }
-{
     let mut outcomes = Outcomes::new(alloc);
-    let ended = walk_rounds::<F>(
+    let ended = walk_rounds(
         alloc,
         test,
         lines,
@@ -73,7 +49,7 @@ fn walk_on<F: MissFile>(
 }
 
 // Adds the outcomes of so many rounds, up to one that has none.
-fn walk_rounds<F: MissFile>(
+fn walk_rounds(
     alloc: Global,
     test: &LitmusTest<'_>,
     lines: &[LineAddr],
@@ -86,11 +62,11 @@ fn walk_rounds<F: MissFile>(
     requires lines { lines.now ≡ lines_of test.now }
     requires named_requests { named_requests.now ≡ all_named_requests test.now }
     requires none { IsTableOf [] outcomes.old }
-    ensures { IfOk result (HaveEnded test.now (F.bound_by test.now.config) seed most count outcomes.new) }
+    ensures { IfOk result (HaveEnded test.now (bound_of test.now.misses test.now.config) seed most count outcomes.new) }
 {
     let mut values = Vec::new(alloc);
     for round in 0..count {
-        let walked: Walked<F> = walk(alloc, test, lines, seed.wrapping_add(round), most)?;
+        let walked: Walked = walk(alloc, test, lines, seed.wrapping_add(round), most)?;
         match walked.end {
             End::Over => {}
             End::Stuck => return Ok(Ended::Stuck(round)),
@@ -105,10 +81,10 @@ fn walk_rounds<F: MissFile>(
 }
 
 // Adds a walk's outcome, where it has one.
-fn add_outcome<F: MissFile>(
+fn add_outcome(
     test: &LitmusTest<'_>,
     named_requests: &[Option<NamedRequest>],
-    walked: &Walked<F>,
+    walked: &Walked,
     values: &mut Vec<u64>,
     outcomes: &mut Outcomes,
 ) -> Result<bool, AllocError>

@@ -1,8 +1,9 @@
 //! The calls that a machine makes of one of its slices. What a slice promises of a call is long, and a machine needs
 //! little of it: that the slice stays the one that it was.
-ghost use Rattle.std.specs.Prelude.{◌≡◌, ◌<◌, length, IfErr, IfOk, IsSome, Some};
+ghost use Rattle.std.specs.Prelude.{◌≡◌, ◌<◌, [], length, IfErr, IfOk, IsSome, Some};
 ghost use Rattle.address_map.specs.Locator.{local_at};
 ghost use Rattle.address_map.specs.Place.{line_of};
+ghost use Rattle.mshr_file.specs.Either.{either_bound, either_misses};
 ghost use Rattle.slice_core.specs.Facts.{IsSameSlice, ShowsLine};
 ghost use Rattle.slice_core.specs.declared.run.Call.TheVariants as slice_calls;
 ghost use Rattle.slice_core.specs.declared.run.CallAnswer.TheVariants as call_answers;
@@ -14,29 +15,31 @@ ghost use Rattle.litmus_script.specs.Machine.{Answers, IsSliceOf, ShowsWord};
 use super::answers::Issued;
 use address_map::{Checked, CoreId, LineAddr, Request, SliceId, WordAddr};
 use litmus_text::TextFault;
-use mshr_file::MissFile;
+use mshr_file::EitherFile;
 use slice_core::{Class, DeliveredNext, Evicted, Issue, LineView, Numbered, Refused, SliceState};
 use std::alloc::{AllocError, Global};
 
-pub(crate) fn build<F: MissFile>(
+pub(crate) fn build(
     alloc: Global,
     config: &Checked,
     slice: SliceId,
-) -> Result<SliceState<F>, TextFault>
-    requires { slice.0 < config.now.slices }
+    empty: &EitherFile,
+) -> Result<SliceState<EitherFile>, TextFault>
+    requires slice { slice.0 < config.now.slices }
+    requires empty { either_misses empty.now ≡ [] }
     ensures slice { IfOk result (IsSliceOf config.now slice.0) }
-    ensures new { IfOk result (IsNew config.now (F.bound_by config.now) slice) }
+    ensures new { IfOk result (IsNew config.now (either_bound empty.now) slice) }
     ensures fault { IfErr result (λ fault. fault ≡ TextFault.NoMemory) }
 {
-    let state = SliceState::build(alloc, config, slice)?;
+    let state = SliceState::build_like(alloc, config, slice, empty)?;
     Ok(state)
 }
 
 /// The same slice, in memory of its own.
-pub(crate) fn copied<F: MissFile>(
-    state: &SliceState<F>,
+pub(crate) fn copied(
+    state: &SliceState<EitherFile>,
     alloc: Global,
-) -> Result<SliceState<F>, AllocError>
+) -> Result<SliceState<EitherFile>, AllocError>
     ensures { IfOk result (λ copy. copy ≡ state.now) }
 {
     state.try_clone(alloc)
@@ -45,8 +48,8 @@ pub(crate) fn copied<F: MissFile>(
 /// An access of a core, and what became of it.
 // What became of an access isn't put together where it is written at once.
 #[inline(always)]
-pub fn issue<F: MissFile>(
-    state: &mut SliceState<F>,
+pub fn issue(
+    state: &mut SliceState<EitherFile>,
     core: CoreId,
     request: Request,
 ) -> Result<Issued, TextFault>
@@ -69,7 +72,7 @@ pub fn issue<F: MissFile>(
 }
 
 #[inline(always)]
-pub(crate) fn evict<F: MissFile>(state: &mut SliceState<F>, core: CoreId, line: LineAddr) -> Evicted
+pub(crate) fn evict(state: &mut SliceState<EitherFile>, core: CoreId, line: LineAddr) -> Evicted
     requires { core.0 < length state.old.view.caches }
     ensures same { IsSameSlice state.old state.new }
     ensures made { Answers (slice_calls.Evict core line) (call_answers.Evict result) state.old state.new }
@@ -78,7 +81,7 @@ pub(crate) fn evict<F: MissFile>(state: &mut SliceState<F>, core: CoreId, line: 
 }
 
 #[inline(always)]
-pub(crate) fn deliver_next<F: MissFile>(state: &mut SliceState<F>) -> DeliveredNext
+pub(crate) fn deliver_next(state: &mut SliceState<EitherFile>) -> DeliveredNext
     ensures same { IsSameSlice state.old state.new }
     ensures made { Answers (slice_calls.DeliverNext classes.Any) (call_answers.DeliverNext result) state.old state.new }
 {
@@ -86,7 +89,7 @@ pub(crate) fn deliver_next<F: MissFile>(state: &mut SliceState<F>) -> DeliveredN
 }
 
 #[inline(always)]
-pub(crate) fn hand<F: MissFile>(state: &mut SliceState<F>, core: CoreId) -> Option<Numbered>
+pub(crate) fn hand(state: &mut SliceState<EitherFile>, core: CoreId) -> Option<Numbered>
     requires { core.0 < length state.old.view.caches }
     ensures same { IsSameSlice state.old state.new }
     ensures made { Answers (slice_calls.Hand core) (call_answers.Hand result) state.old state.new }
@@ -95,7 +98,7 @@ pub(crate) fn hand<F: MissFile>(state: &mut SliceState<F>, core: CoreId) -> Opti
 }
 
 /// What a slice has of a line of its own.
-pub(crate) fn line<F: MissFile>(state: &SliceState<F>, line: LineAddr) -> LineView
+pub(crate) fn line(state: &SliceState<EitherFile>, line: LineAddr) -> LineView
     requires { IsSome (local_at state.now.view.lines line.0) }
     ensures { ShowsLine state.now.view (local_at state.now.view.lines line.0) (Some result) }
 {
@@ -106,7 +109,7 @@ pub(crate) fn line<F: MissFile>(state: &SliceState<F>, line: LineAddr) -> LineVi
 }
 
 /// The value of a word, where the slice is quiet.
-pub(crate) fn word<F: MissFile>(state: &SliceState<F>, word: WordAddr) -> Option<u64>
+pub(crate) fn word(state: &SliceState<EitherFile>, word: WordAddr) -> Option<u64>
     requires { IsSome (local_at state.now.view.lines (line_of word).0) }
     ensures { ShowsWord state.now.view word result }
 {

@@ -3,6 +3,7 @@ ghost use Rattle.litmus_text.specs.Command.{IsInRange, HasCore, HasLine};
 ghost use Rattle.address_map.specs.Config.{IsAllowed};
 ghost use Rattle.stats_report.specs.Report.{AreAlike, views_of};
 ghost use Rattle.address_map.specs.Place.{line_of as line_of_word};
+ghost use Rattle.mshr_file.specs.Miss.{bound_of};
 ghost use Rattle.slice_core.specs.declared.run.Call.TheVariants as slice_calls;
 ghost use Rattle.slice_core.specs.declared.run.CallAnswer.TheVariants as call_answers;
 ghost use Rattle.slice_core_plan.specs.View.{IsQuiet};
@@ -17,23 +18,23 @@ use super::calls;
 use super::player::Player;
 use address_map::{Checked, CoreId, LineAddr, Request, SliceId, WordAddr};
 use litmus_text::{Command, Statement, TextFault};
-use mshr_file::MissFile;
+use mshr_file::{EitherFile, MissKind};
 use slice_core::{
     Delivered, Entry, Evicted, LineView, LineWaiting, Message, Numbered, Pick, SliceState, Stats,
 };
 use std::alloc::{AllocError, Global};
 use std::io::Write;
 
-/// A machine on one thread: the state of each slice. Its caches keep track of their misses in files of type `F`.
+/// A machine on one thread: the state of each slice.
 #[derive(Drop)]
-pub struct Machine<F: MissFile> {
+pub struct Machine {
     pub config: Checked,
-    pub slices: Vec<SliceState<F>>,
+    pub slices: Vec<SliceState<EitherFile>>,
     pub(crate) alloc: Global,
     ghost shaped: { IsMachine config slices.items },
 }
 
-impl<F: MissFile> Player for Machine<F> {
+impl Player for Machine {
     ghost use Rattle.std.specs.Prelude.{◌≡◌};
     ghost use Rattle.litmus_script.specs.Prints.{IsPrinted};
 
@@ -56,15 +57,16 @@ impl<F: MissFile> Player for Machine<F> {
     }
 }
 
-impl<F: MissFile> Machine<F> {
-    pub fn build(alloc: Global, config: Checked) -> Result<Self, TextFault>
+impl Machine {
+    pub fn build(alloc: Global, config: Checked, misses: MissKind) -> Result<Self, TextFault>
         ensures config { IfOk result (λ machine. machine.config ≡ config) }
         ensures fault { IfErr result (λ fault. fault ≡ TextFault.NoMemory) }
-        ensures new { IfOk result (λ machine. IsNewMachine config (F.bound_by config) machine.slices.items) }
+        ensures new { IfOk result (λ machine. IsNewMachine config (bound_of misses config) machine.slices.items) }
     {
+        let empty = EitherFile::of_kind(alloc, &config, misses)?;
         let mut slices = Vec::new(alloc);
         for slice in 0..config.slices() {
-            let state = calls::build(alloc, &config, SliceId(slice as u8))?;
+            let state = calls::build(alloc, &config, SliceId(slice as u8), &empty)?;
             slices.push(state)?;
         }
         Ok(Machine {

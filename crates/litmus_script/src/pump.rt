@@ -8,7 +8,6 @@ use super::calls;
 use super::deliverer::Deliverer;
 use super::machine::Machine;
 use litmus_text::TextFault;
-use mshr_file::MissFile;
 use slice_core::DeliveredNext;
 use std::io::Write;
 
@@ -101,7 +100,7 @@ fn make_round<D: Deliverer, W: Write>(
 }
 
 /// A machine says nothing of its deliveries.
-impl<F: MissFile> Deliverer for Machine<F> {
+impl Deliverer for Machine {
     ghost use Rattle.std.specs.Prelude.{◌≡◌};
     ghost use Rattle.litmus_script.specs.Pump.{Silently};
 

@@ -14,13 +14,12 @@ use super::pump::pump_slices;
 use super::trace::write_trace;
 use address_map::{CoreId, LineAddr, Request, SliceId, WordAddr};
 use litmus_text::{Command, TextFault};
-use mshr_file::MissFile;
 use slice_core::Pick;
 use slice_text::write_line;
 use stats_report::{ReportError, write_report};
 use std::io::Write;
 
-impl<F: MissFile> Machine<F> {
+impl Machine {
     /// Does what the command says, and writes the answer.
     pub fn run<W: Write>(&mut self, command: Command, out: &mut W) -> Result<(), TextFault>
         requires { IsInRange self.old.config command }

@@ -19,7 +19,7 @@ use address_map::{Checked, Config};
 use litmus_text::{
     ConfigLine, LineFault, Settings, Statement, Statements, TextFault, parse_command,
 };
-use mshr_file::{ExplicitFile, InvertedFile, MissFile, MissKind};
+use mshr_file::MissKind;
 use std::alloc::Global;
 use std::io::Write;
 
@@ -78,28 +78,7 @@ fn run_read<S: Style, W: Write>(
         misses,
         commands,
     } = script;
-    match misses {
-        MissKind::Explicit => run_on::<ExplicitFile, S, W>(alloc, config, commands, style, out),
-        MissKind::Inverted => run_on::<InvertedFile, S, W>(alloc, config, commands, style, out),
-    }
-}
-
-/// Plays commands on a new machine with miss registers of type `F`.
-fn run_on<F: MissFile, S: Style, W: Write>(
-    alloc: Global,
-    config: Checked,
-    commands: Commands<'_>,
-    style: &S,
-    out: &mut W,
-) -> Result<(), TextFault>
-    ensures played { OnOk result (IsPlayedOn (S.playing style.now) config (F.bound_by config)
-        (commands_of commands.entry)
-        (W.contents out.old) (W.contents out.new)) }
-    ensures fault { IfErr result (IsPlayedUpTo (S.playing style.now) config (F.bound_by config)
-        (commands_of commands.entry)
-        (W.contents out.old) (W.contents out.new)) }
-{
-    let machine: Machine<F> = Machine::build(alloc, config)?;
+    let machine = Machine::build(alloc, config, misses)?;
     style.play(machine, commands, out)
 }
 
@@ -108,9 +87,9 @@ pub trait Style {
     ghost playing: { Self → Playing };
 
     /// Plays the commands in order, up to the first fault.
-    fn play<F: MissFile, W: Write>(
+    fn play<W: Write>(
         &self,
-        machine: Machine<F>,
+        machine: Machine,
         commands: Commands<'_>,
         out: &mut W,
     ) -> Result<(), TextFault>
@@ -130,9 +109,9 @@ pub struct Plain {
 impl Style for Plain {
     ghost playing = { λ style. Echoed style.echo Plainly };
 
-    fn play<F: MissFile, W: Write>(
+    fn play<W: Write>(
         &self,
-        machine: Machine<F>,
+        machine: Machine,
         commands: Commands<'_>,
         out: &mut W,
     ) -> Result<(), TextFault> {
@@ -145,8 +124,8 @@ impl Style for Plain {
 }
 
 /// Plays commands on a machine, each after its own line.
-fn play_echoed<F: MissFile, W: Write>(
-    machine: Machine<F>,
+fn play_echoed<W: Write>(
+    machine: Machine,
     commands: Commands<'_>,
     out: &mut W,
 ) -> Result<(), TextFault>
@@ -162,8 +141,8 @@ fn play_echoed<F: MissFile, W: Write>(
 }
 
 /// Plays commands on a machine.
-fn play_alone<F: MissFile, W: Write>(
-    machine: Machine<F>,
+fn play_alone<W: Write>(
+    machine: Machine,
     commands: Commands<'_>,
     out: &mut W,
 ) -> Result<(), TextFault>

@@ -7,11 +7,10 @@ ghost use Rattle.litmus_text.specs.declared.command.Command.TheVariants as comma
 use super::answers::{TextWriter, written};
 use super::machine::Machine;
 use litmus_text::TextFault;
-use mshr_file::MissFile;
 use slice_text::write_slices;
 use std::io::Write;
 
-impl<F: MissFile> Machine<F> {
+impl Machine {
     /// Shows all that isn't at rest.
     pub fn run_show<W: Write>(&self, out: &mut W) -> Result<(), TextFault>
         ensures fault { IfErr result IsOfRun }

@@ -18,14 +18,14 @@ use super::machine::Machine;
 use address_map::CoreId;
 use arrayvec::ArrayVec;
 use litmus_text::TextFault;
-use mshr_file::MissFile;
+use mshr_file::EitherFile;
 use script_text::Delivery;
 use slice_core::{CopyState, Pick, Plan, SliceState};
 use std::fmt::Write;
 use std::{fmt, io};
 use step_text::MessageName;
 
-impl<F: MissFile> Machine<F> {
+impl Machine {
     /// Shows the messages in flight.
     pub fn run_waiting<W: io::Write>(&self, out: &mut W) -> Result<(), TextFault>
         ensures fault { IfErr result IsOfRun }
@@ -40,7 +40,7 @@ impl<F: MissFile> Machine<F> {
 
 /// Writes a line for each channel in which a message waits, or that none is in flight.
 #[tactic(auto, using(crate::proofs::WaitingLemmas::text_of_some))]
-fn write_waiting<F: MissFile, W: Write>(slices: &[SliceState<F>], out: &mut W) -> fmt::Result
+fn write_waiting<W: Write>(slices: &[SliceState<EitherFile>], out: &mut W) -> fmt::Result
     ensures { OnOk result (WritesInCalls W.write_str_gives out.old (text_of_waiting slices.now) out.new) }
 {
     if is_nothing_in_flight(slices) {
@@ -49,7 +49,7 @@ fn write_waiting<F: MissFile, W: Write>(slices: &[SliceState<F>], out: &mut W) -
     write_slices(slices, out)
 }
 
-fn is_nothing_in_flight<F: MissFile>(slices: &[SliceState<F>]) -> bool
+fn is_nothing_in_flight(slices: &[SliceState<EitherFile>]) -> bool
     ensures { IsTrue result ↔ (in_flight slices.now ≡ []) }
 {
     for state in slices {
@@ -60,7 +60,7 @@ fn is_nothing_in_flight<F: MissFile>(slices: &[SliceState<F>]) -> bool
     true
 }
 
-fn write_slices<F: MissFile, W: Write>(slices: &[SliceState<F>], out: &mut W) -> fmt::Result
+fn write_slices<W: Write>(slices: &[SliceState<EitherFile>], out: &mut W) -> fmt::Result
     ensures { OnOk result (WritesInCalls W.write_str_gives out.old (lines_of (in_flight slices.now)) out.new) }
 {
     for state in slices {
@@ -69,7 +69,7 @@ fn write_slices<F: MissFile, W: Write>(slices: &[SliceState<F>], out: &mut W) ->
     Ok(())
 }
 
-fn write_slice<F: MissFile, W: Write>(state: &SliceState<F>, out: &mut W) -> fmt::Result
+fn write_slice<W: Write>(state: &SliceState<EitherFile>, out: &mut W) -> fmt::Result
     ensures { OnOk result (WritesInCalls W.write_str_gives out.old
         (lines_of (flights_of state.now.view (picks_of state.now.view))) out.new) }
 {
@@ -81,7 +81,7 @@ fn write_slice<F: MissFile, W: Write>(state: &SliceState<F>, out: &mut W) -> fmt
 }
 
 /// Writes the line of the message in front of a channel, if one waits there.
-fn write_front<F: MissFile, W: Write>(state: &SliceState<F>, pick: Pick, out: &mut W) -> fmt::Result
+fn write_front<W: Write>(state: &SliceState<EitherFile>, pick: Pick, out: &mut W) -> fmt::Result
     ensures { OnOk result (WritesInCalls W.write_str_gives out.old (text_at state.now.view pick) out.new) }
 {
     let Some(message) = state.front(pick) else {
@@ -99,11 +99,7 @@ fn write_front<F: MissFile, W: Write>(state: &SliceState<F>, pick: Pick, out: &m
 }
 
 /// Writes in which state the receiver is that a message has to wait for.
-fn write_blocked<F: MissFile, W: Write>(
-    state: &SliceState<F>,
-    pick: Pick,
-    out: &mut W,
-) -> fmt::Result
+fn write_blocked<W: Write>(state: &SliceState<EitherFile>, pick: Pick, out: &mut W) -> fmt::Result
     ensures { OnOk result ((local : Local) → local_at state.now.view.lines (line_of pick).0 ≡ Some local
         → WritesLine W.write_str_gives out.old (codes "blocked: "
         ++ receiver_state state.now.view local (channel_of pick)) out.new) }

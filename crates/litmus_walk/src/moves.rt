@@ -9,7 +9,6 @@ use super::place::Place;
 use super::walker::{Reply, Walker};
 use address_map::LineAddr;
 use litmus_test::{Action, LitmusTest, Thread};
-use mshr_file::MissFile;
 use slice_core::{LineWaiting, Pick};
 use std::alloc::{AllocError, Global};
 
@@ -23,7 +22,7 @@ pub(crate) enum Move {
     Hand(usize),
 }
 
-impl<F: MissFile> Walker<F> {
+impl Walker {
     /// Lists what may be done next: the steps in the order of the threads, the deliveries line by line, and the
     /// hand-outs.
     pub fn list_moves(

@@ -4,6 +4,7 @@ ghost use Rattle.address_map.specs.Config.{IsAllowed};
 ghost use Rattle.address_map.specs.Place.{line_of as line_of_word};
 ghost use Rattle.litmus_script.specs.Issued.{IsIssued};
 ghost use Rattle.litmus_script.specs.Machine.{IsAnswered, IsNewMachine, IsQuietWord, IsShownWord, log_at};
+ghost use Rattle.mshr_file.specs.Miss.{bound_of};
 ghost use Rattle.slice_core.specs.declared.run.Call.TheVariants as slice_calls;
 ghost use Rattle.slice_core.specs.declared.run.CallAnswer.TheVariants as call_answers;
 ghost use Rattle.litmus_text.specs.Command.{HasCore};
@@ -17,7 +18,7 @@ use super::place::StepPlace;
 use address_map::{Checked, CoreId, LineAddr, Request, SliceId, WordAddr};
 use litmus_script::{Issued, Machine};
 use litmus_text::Command;
-use mshr_file::MissFile;
+use mshr_file::MissKind;
 use slice_core::{Entry, LineWaiting, Numbered, Pick};
 use std::alloc::{AllocError, Global};
 use std::marker::Model;
@@ -55,12 +56,12 @@ impl Made {
 
 /// A machine with the calls that were made of it, in order.
 #[derive(Drop)]
-pub struct Recorded<F: MissFile> {
-    machine: Machine<F>,
+pub struct Recorded {
+    machine: Machine,
     calls: Vec<Made>,
 }
 
-impl<F: MissFile> Model for Recorded<F> {
+impl Model for Recorded {
     ghost use Rattle.litmus_walk.specs.Walk.{WalkView};
 
     ghost Value = { WalkView };
@@ -68,14 +69,14 @@ impl<F: MissFile> Model for Recorded<F> {
     ghost view = { λ r. record { config = r.machine.config; slices = r.machine.slices.items; calls = r.calls.items } };
 }
 
-impl<F: MissFile> Recorded<F> {
+impl Recorded {
     ghost use Rattle.litmus_walk.specs.Walk.{IsFresh};
 
     /// A new machine, of which no call was made yet.
-    pub fn new(alloc: Global, config: Checked) -> Result<Self, AllocError>
-        ensures { IfOk result (IsFresh config (F.bound_by config)) }
+    pub fn new(alloc: Global, config: Checked, misses: MissKind) -> Result<Self, AllocError>
+        ensures { IfOk result (IsFresh config (bound_of misses config)) }
     {
-        let Ok(machine) = Machine::build(alloc, config) else {
+        let Ok(machine) = Machine::build(alloc, config, misses) else {
             return Err(AllocError);
         };
         Ok(Recorded {

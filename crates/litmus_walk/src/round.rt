@@ -1,4 +1,5 @@
 ghost use Rattle.std.specs.Prelude.{◌≡◌, [], All, IfNone, IfOk, IfSome, OnOk, Some};
+ghost use Rattle.mshr_file.specs.Miss.{bound_of};
 ghost use Rattle.rand_xoshiro.specs.Xoshiro256.{plus_plus};
 ghost use Rattle.slice_core_plan.specs.View.{IsQuiet};
 ghost use Rattle.litmus_walk.specs.Done.{AreDone, GoesOn, steps_of};
@@ -13,7 +14,6 @@ use super::recorded::Recorded;
 use super::walker::Walker;
 use address_map::LineAddr;
 use litmus_test::LitmusTest;
-use mshr_file::MissFile;
 use rand_core::SeedableRng;
 use rand_core::utils::NextWord;
 use rand_xoshiro::Xoshiro256PlusPlus;
@@ -44,30 +44,30 @@ impl End {
 
 /// A walk that has ended.
 #[derive(Drop)]
-pub struct Walked<F: MissFile> {
-    pub recorded: Recorded<F>,
+pub struct Walked {
+    pub recorded: Recorded,
     pub end: End,
 }
 
 /// Walks through the test, by the moves that the seed draws, of which it makes `most` at most. All messages are for
 /// these lines.
-pub fn walk<F: MissFile>(
+pub fn walk(
     alloc: Global,
     test: &LitmusTest<'_>,
     lines: &[LineAddr],
     seed: u64,
     most: u64,
-) -> Result<Walked<F>, AllocError>
-    ensures walk { IfOk result (λ walked. IsWalkOf test.now (F.bound_by test.now.config) walked.recorded) }
+) -> Result<Walked, AllocError>
+    ensures walk { IfOk result (λ walked. IsWalkOf test.now (bound_of test.now.misses test.now.config) walked.recorded) }
     ensures over { IfOk result (λ walked. walked.end ≡ ends.Over
         → All (λ state. IsQuiet state.view) walked.recorded.slices) }
     ensures done { IfOk result (λ walked. walked.end ≡ ends.Over
         → AreDone test.now.threads.items walked.recorded.calls) }
-    ensures drawn { IfOk result (λ walked. IsDrawn test.now (F.bound_by test.now.config) lines.now seed most
+    ensures drawn { IfOk result (λ walked. IsDrawn test.now (bound_of test.now.misses test.now.config) lines.now seed most
         walked.end walked.recorded) }
 {
     let config = test.config.try_clone(alloc)?;
-    let recorded = Recorded::new(alloc, config)?;
+    let recorded = Recorded::new(alloc, config, test.misses)?;
     let mut walker = Walker::new(alloc, test, recorded)?;
     walk_on(alloc, test, lines, seed, most, &mut walker)?;
     let end = end_of(alloc, test, lines, &walker)?;
@@ -76,11 +76,11 @@ pub fn walk<F: MissFile>(
 }
 
 // How a walk ends that goes no further.
-fn end_of<F: MissFile>(
+fn end_of(
     alloc: Global,
     test: &LitmusTest<'_>,
     lines: &[LineAddr],
-    walker: &Walker<F>,
+    walker: &Walker,
 ) -> Result<End, AllocError>
     ensures { IfOk result (λ end. IsEnd test.now.threads.items lines.now end
         (state_of walker.now.recorded walker.now.places.items walker.now.replies.items)) }
@@ -98,13 +98,13 @@ fn end_of<F: MissFile>(
 }
 
 // Makes moves up to where none may come next, or `most` of them.
-fn walk_on<F: MissFile>(
+fn walk_on(
     alloc: Global,
     test: &LitmusTest<'_>,
     lines: &[LineAddr],
     seed: u64,
     most: u64,
-    walker: &mut Walker<F>,
+    walker: &mut Walker,
 ) -> Result<(), AllocError>
     requires { walker.old.recorded.config ≡ test.now.config }
     ensures walks { OnOk result (Walks test.now.threads.items walker.old.recorded walker.new.recorded) }

@@ -13,7 +13,7 @@ use address_map::Checked;
 use litmus_script::TextWriter;
 use litmus_test::LitmusTest;
 use litmus_text::TextFault;
-use mshr_file::{ExplicitFile, InvertedFile, MissFile, MissKind};
+use mshr_file::MissKind;
 use script_text::{write_command, write_settings};
 use std::alloc::Global;
 use std::fmt::Write;
@@ -32,25 +32,8 @@ pub fn write_walk<W: io::Write>(
         status (W.contents out.old) (W.contents out.new)) }
     ensures fault { IfErr result IsOfRun }
 {
-    match test.misses {
-        MissKind::Explicit => write_on::<ExplicitFile, W>(alloc, test, seed, most, out),
-        MissKind::Inverted => write_on::<InvertedFile, W>(alloc, test, seed, most, out),
-    }
-}
-
-fn write_on<F: MissFile, W: io::Write>(
-    alloc: Global,
-    test: &LitmusTest<'_>,
-    seed: u64,
-    most: u64,
-    out: &mut W,
-) -> Result<u8, TextFault>
-    ensures printed { IfOk result (λ status. PrintsWalk test.now (F.bound_by test.now.config) seed most status
-        (W.contents out.old) (W.contents out.new)) }
-    ensures fault { IfErr result IsOfRun }
-{
     let lines = named_lines(alloc, test)?;
-    let walked = walk::<F>(alloc, test, &lines, seed, most)?;
+    let walked = walk(alloc, test, &lines, seed, most)?;
     print_script(&test.config, test.misses, walked.recorded.calls(), out)?;
     Ok(walked.end.status())
 }

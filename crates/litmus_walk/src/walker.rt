@@ -16,7 +16,6 @@ use super::recorded::Recorded;
 use address_map::{LineAddr, Op, Request, WordAddr};
 use litmus_script::Issued;
 use litmus_test::{Action, LitmusTest, Thread};
-use mshr_file::MissFile;
 use slice_core::{Entry, Pick};
 use std::alloc::{AllocError, Global};
 
@@ -29,19 +28,15 @@ pub(crate) struct Reply {
 
 /// A walk on its way: the machine, where each thread is, and the replies that wait.
 #[derive(Drop)]
-pub(crate) struct Walker<F: MissFile> {
-    pub recorded: Recorded<F>,
+pub(crate) struct Walker {
+    pub recorded: Recorded,
     pub places: Vec<Place>,
     pub replies: Vec<Reply>,
 }
 
-impl<F: MissFile> Walker<F> {
+impl Walker {
     /// Each thread of the test stands before its first step.
-    pub fn new(
-        alloc: Global,
-        test: &LitmusTest<'_>,
-        recorded: Recorded<F>,
-    ) -> Result<Self, AllocError>
+    pub fn new(alloc: Global, test: &LitmusTest<'_>, recorded: Recorded) -> Result<Self, AllocError>
         ensures recorded { IfOk result (λ walker. walker.recorded ≡ recorded) }
         ensures first { IfOk result (λ walker.
             walker.places.items ≡ replicate (length test.now.threads.items) first_place) }

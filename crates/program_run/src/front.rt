@@ -10,7 +10,7 @@ ghost use Rattle.slice_queues_message.specs.Pick.{pick_at};
 
 use super::moves::Move;
 use address_map::LineAddr;
-use mshr_file::MissFile;
+use mshr_file::EitherFile;
 use slice_core::{Class, DeliveredNext, Delivery, LineWaiting, Pick, SliceState};
 use std::alloc::AllocError;
 
@@ -26,7 +26,7 @@ pub(crate) enum Front {
 }
 
 /// The next delivery of the slice, if one can be made. Nothing waits in so many lines in front of its ring.
-pub(crate) fn next_delivery<F: MissFile>(state: &SliceState<F>, idle: &mut usize) -> Option<Pick>
+pub(crate) fn next_delivery(state: &SliceState<EitherFile>, idle: &mut usize) -> Option<Pick>
     requires { HasIdleFront idle.old state.now }
     ensures next { delivery_of (next_pick state.now classes.Any) ≡ delivery_if result }
     ensures idle { HasIdleFront idle.new state.now }
@@ -39,7 +39,7 @@ pub(crate) fn next_delivery<F: MissFile>(state: &SliceState<F>, idle: &mut usize
 }
 
 // The next delivery where the pick is of the first message: that one, if it can be made.
-fn next_from<F: MissFile>(state: &SliceState<F>, pick: Pick) -> Option<Pick>
+fn next_from(state: &SliceState<EitherFile>, pick: Pick) -> Option<Pick>
     ensures { IsNextFrom state.now pick result }
 {
     match state.plan(pick) {
@@ -72,8 +72,8 @@ pub(crate) fn push_delivery(next: Option<Pick>, moves: &mut Vec<Move>) -> Result
 }
 
 /// Lists the deliveries that the slice can be asked for. Nothing waits in so many lines in front of its ring.
-pub(crate) fn list_waiting<F: MissFile>(
-    state: &SliceState<F>,
+pub(crate) fn list_waiting(
+    state: &SliceState<EitherFile>,
     idle: &mut usize,
     moves: &mut Vec<Move>,
 ) -> Result<(), AllocError>
@@ -86,8 +86,8 @@ pub(crate) fn list_waiting<F: MissFile>(
 }
 
 // .. line by line after those.
-fn list_behind<F: MissFile>(
-    state: &SliceState<F>,
+fn list_behind(
+    state: &SliceState<EitherFile>,
     idle: usize,
     moves: &mut Vec<Move>,
 ) -> Result<(), AllocError>
@@ -108,8 +108,8 @@ fn list_behind<F: MissFile>(
 }
 
 // Lists the deliveries of the messages of a line, channel by channel.
-fn list_line<F: MissFile>(
-    state: &SliceState<F>,
+fn list_line(
+    state: &SliceState<EitherFile>,
     line: LineAddr,
     moves: &mut Vec<Move>,
 ) -> Result<(), AllocError>
@@ -137,7 +137,7 @@ fn push_all(
 }
 
 // The first line of the ring that isn't idle.
-fn first_front<F: MissFile>(state: &SliceState<F>, idle: &mut usize) -> Front
+fn first_front(state: &SliceState<EitherFile>, idle: &mut usize) -> Front
     requires { HasIdleFront idle.old state.now }
     ensures front { IsFront state.now idle.new result }
     ensures idle { HasIdleFront idle.new state.now }
@@ -154,7 +154,7 @@ fn first_front<F: MissFile>(state: &SliceState<F>, idle: &mut usize) -> Front
     Front::Idle
 }
 
-fn front_of<F: MissFile>(state: &SliceState<F>, line: LineAddr) -> Front
+fn front_of(state: &SliceState<EitherFile>, line: LineAddr) -> Front
     ensures { IsLineFront state.now.view line (local_at state.now.view.lines line.0) result }
 {
     let Some(mut waiting) = state.waiting_at(line) else {
@@ -167,8 +167,8 @@ fn front_of<F: MissFile>(state: &SliceState<F>, line: LineAddr) -> Front
 }
 
 /// How many of so many lines in front of the ring stand before these two.
-pub(crate) fn lines_before<F: MissFile>(
-    state: &SliceState<F>,
+pub(crate) fn lines_before(
+    state: &SliceState<EitherFile>,
     count: usize,
     line: LineAddr,
     left: Option<LineAddr>,

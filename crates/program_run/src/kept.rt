@@ -17,7 +17,6 @@ use super::front::{lines_before, list_waiting, next_delivery};
 use super::moves::{Move, decide};
 use address_map::{CoreId, LineAddr, Request, SliceId};
 use litmus_script::{Issued, Machine};
-use mshr_file::MissFile;
 use slice_core::{Decision, Delivered, Numbered, Pick};
 use std::alloc::{AllocError, Global};
 
@@ -50,12 +49,7 @@ impl Kept {
     }
 
     /// What the machine decides of an access.
-    pub fn decide<F: MissFile>(
-        &mut self,
-        machine: &Machine<F>,
-        core: CoreId,
-        request: Request,
-    ) -> Decision
+    pub fn decide(&mut self, machine: &Machine, core: CoreId, request: Request) -> Decision
         requires core { HasCore machine.now.config core }
         requires kept { Knows machine.now.config machine.now.slices.items self.old }
         ensures decided { decision_on machine.now.config machine.now.slices.items core request ≡ Some result }
@@ -80,12 +74,7 @@ impl Kept {
         Some(known.decision)
     }
 
-    fn decide_anew<F: MissFile>(
-        &mut self,
-        machine: &Machine<F>,
-        core: CoreId,
-        request: Request,
-    ) -> Decision
+    fn decide_anew(&mut self, machine: &Machine, core: CoreId, request: Request) -> Decision
         requires core { HasCore machine.now.config core }
         requires kept { Knows machine.now.config machine.now.slices.items self.old }
         ensures decided { decision_on machine.now.config machine.now.slices.items core request ≡ Some result }
@@ -149,7 +138,7 @@ impl Kept {
     }
 
     /// The next delivery of a slice, if one can be made.
-    pub fn next<F: MissFile>(&mut self, machine: &Machine<F>, slice: usize) -> Option<Pick>
+    pub fn next(&mut self, machine: &Machine, slice: usize) -> Option<Pick>
         requires slice { slice < length machine.now.slices.items }
         requires kept { Knows machine.now.config machine.now.slices.items self.old }
         ensures next { IfSome (slice_get machine.now.slices.items slice)
@@ -163,9 +152,9 @@ impl Kept {
     }
 
     /// Lists the deliveries that a slice can be asked for.
-    pub fn list_waiting<F: MissFile>(
+    pub fn list_waiting(
         &mut self,
-        machine: &Machine<F>,
+        machine: &Machine,
         slice: usize,
         moves: &mut Vec<Move>,
     ) -> Result<(), AllocError>
@@ -203,13 +192,7 @@ impl Kept {
     }
 
     // Lines to which an access may have sent something are looked at again.
-    fn look_again<F: MissFile>(
-        &mut self,
-        machine: &Machine<F>,
-        core: CoreId,
-        line: LineAddr,
-        issued: Issued,
-    )
+    fn look_again(&mut self, machine: &Machine, core: CoreId, line: LineAddr, issued: Issued)
         requires { HasCore machine.now.config core }
         ensures decided { self.new.decided ≡ self.old.decided }
         ensures idle { LooksAgain machine.now.slices.items (line.0 % machine.now.config.slices) core line issued
@@ -222,7 +205,7 @@ impl Kept {
     }
 
     // Of the idle lines those count that are before this one, and before the one that left last.
-    fn look_behind<F: MissFile>(&mut self, machine: &Machine<F>, core: CoreId, line: LineAddr)
+    fn look_behind(&mut self, machine: &Machine, core: CoreId, line: LineAddr)
         requires { HasCore machine.now.config core }
         ensures decided { self.new.decided ≡ self.old.decided }
         ensures idle { LooksBehind machine.now.slices.items (line.0 % machine.now.config.slices) core line
@@ -240,9 +223,9 @@ impl Kept {
 
 /// The calls of the machine, and what holds after them.
 impl Kept {
-    pub fn issue<F: MissFile>(
+    pub fn issue(
         &mut self,
-        machine: &mut Machine<F>,
+        machine: &mut Machine,
         core: CoreId,
         request: Request,
     ) -> Result<Issued, AllocError>
@@ -263,7 +246,7 @@ impl Kept {
         }
     }
 
-    pub fn deliver<F: MissFile>(&mut self, machine: &mut Machine<F>, pick: Pick) -> Delivered
+    pub fn deliver(&mut self, machine: &mut Machine, pick: Pick) -> Delivered
         requires { Knows machine.old.config machine.old.slices.items self.old }
         ensures config { machine.new.config ≡ machine.old.config }
         ensures answered { IsAnswered ((line_of pick).0 % machine.old.config.slices) (slice_calls.Deliver pick)
@@ -274,12 +257,7 @@ impl Kept {
         machine.deliver(pick)
     }
 
-    pub fn hand<F: MissFile>(
-        &mut self,
-        machine: &mut Machine<F>,
-        core: CoreId,
-        slice: SliceId,
-    ) -> Option<Numbered>
+    pub fn hand(&mut self, machine: &mut Machine, core: CoreId, slice: SliceId) -> Option<Numbered>
         requires core { HasCore machine.old.config core }
         requires slice { slice.0 < machine.old.config.slices }
         requires kept { Knows machine.old.config machine.old.slices.items self.old }

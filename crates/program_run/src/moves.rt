@@ -25,7 +25,6 @@ use super::kept::Kept;
 use super::usage::Usage;
 use address_map::{CoreId, Request};
 use litmus_script::Machine;
-use mshr_file::MissFile;
 use program_text::{Access, CoreProgram, Programs, Step};
 use slice_core::{AccessKind, Decision, Pick};
 use std::alloc::AllocError;
@@ -88,8 +87,8 @@ pub(crate) enum Turn {
 
 /// Lists what may come next after what is listed: steps in the order of the programs, and then a delivery of each
 /// slice.
-pub(crate) fn list_moves<F: MissFile>(
-    machine: &Machine<F>,
+pub(crate) fn list_moves(
+    machine: &Machine,
     programs: &Programs,
     places: &[Place],
     kept: &mut Kept,
@@ -105,8 +104,8 @@ pub(crate) fn list_moves<F: MissFile>(
     list_deliveries(machine, kept, moves)
 }
 
-fn list_asks<F: MissFile>(
-    machine: &Machine<F>,
+fn list_asks(
+    machine: &Machine,
     programs: &Programs,
     places: &[Place],
     kept: &mut Kept,
@@ -126,8 +125,8 @@ fn list_asks<F: MissFile>(
     Ok(())
 }
 
-fn list_deliveries<F: MissFile>(
-    machine: &Machine<F>,
+fn list_deliveries(
+    machine: &Machine,
     kept: &mut Kept,
     moves: &mut Vec<Move>,
 ) -> Result<(), AllocError>
@@ -143,8 +142,8 @@ fn list_deliveries<F: MissFile>(
 }
 
 // Whether the program's next step may be taken: an access neither stalls nor is refused, or its stall is to be counted.
-fn may_ask<F: MissFile>(
-    machine: &Machine<F>,
+fn may_ask(
+    machine: &Machine,
     programs: &Programs,
     places: &[Place],
     kept: &mut Kept,
@@ -185,13 +184,7 @@ fn may_stall(most: Option<u64>, places: &[Place], number: usize) -> bool
     }
 }
 
-fn may_turn<F: MissFile>(
-    machine: &Machine<F>,
-    kept: &mut Kept,
-    stalls: bool,
-    core: CoreId,
-    turn: Turn,
-) -> bool
+fn may_turn(machine: &Machine, kept: &mut Kept, stalls: bool, core: CoreId, turn: Turn) -> bool
     requires core { HasCore machine.now.config core }
     requires kept { Knows machine.now.config machine.now.slices.items kept.old }
     ensures may { result ≡ may_turn machine.now.config machine.now.slices.items stalls core turn }
@@ -282,7 +275,7 @@ fn turn_of(place: Place, step: Step) -> Turn
 }
 
 /// What the machine would decide of a request.
-pub(crate) fn decide<F: MissFile>(machine: &Machine<F>, core: CoreId, request: Request) -> Decision
+pub(crate) fn decide(machine: &Machine, core: CoreId, request: Request) -> Decision
     requires { HasCore machine.now.config core }
     ensures { decision_on machine.now.config machine.now.slices.items core request ≡ Some result }
 {

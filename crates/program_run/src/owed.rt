@@ -6,7 +6,6 @@ ghost use Rattle.program_run.specs.Run.{owed_from, owed_in, pace_of};
 use super::kept::Kept;
 use super::moves::Move;
 use litmus_script::Machine;
-use mshr_file::MissFile;
 use std::alloc::{AllocError, Global};
 
 /// How many deliveries each slice makes after an access: none, where no number is said.
@@ -46,8 +45,8 @@ pub(crate) fn owe_less(owed: &mut Vec<u64>, slice: usize)
 }
 
 /// Lists the deliveries of the first slice that has some still to make, and a message. Nothing is listed before.
-pub(crate) fn list_owed<F: MissFile>(
-    machine: &Machine<F>,
+pub(crate) fn list_owed(
+    machine: &Machine,
     owed: &[u64],
     kept: &mut Kept,
     moves: &mut Vec<Move>,
@@ -85,8 +84,8 @@ fn left_of(owed: &[u64], slice: usize) -> u64
 }
 
 // Lists the deliveries that a slice can be asked for, where it has so many still to make.
-fn list_owed_in<F: MissFile>(
-    machine: &Machine<F>,
+fn list_owed_in(
+    machine: &Machine,
     slice: usize,
     left: u64,
     kept: &mut Kept,

@@ -7,14 +7,13 @@ use super::kept::Kept;
 use super::runner::Runner;
 use address_map::SliceId;
 use litmus_script::Machine;
-use mshr_file::MissFile;
 use program_text::Programs;
 use slice_core::Entry;
 use std::alloc::AllocError;
 
 /// Lists what the slice performed after so many entries.
-pub(crate) fn list_performed<F: MissFile>(
-    machine: &Machine<F>,
+pub(crate) fn list_performed(
+    machine: &Machine,
     slice: SliceId,
     before: usize,
     performed: &mut Vec<Entry>,
@@ -37,8 +36,8 @@ fn behind(log: &[Entry], before: usize) -> &[Entry]
 }
 
 /// Accesses that waited are performed by one delivery: each reply is handed out.
-pub(crate) fn hand_out_all<F: MissFile>(
-    runner: &mut Runner<F>,
+pub(crate) fn hand_out_all(
+    runner: &mut Runner,
     programs: &Programs,
     slice: SliceId,
     kept: &mut Kept,

@@ -7,17 +7,12 @@ ghost use Rattle.program_run.specs.Run.{is_closed};
 
 use address_map::{CoreId, LineAddr};
 use litmus_script::Machine;
-use mshr_file::MissFile;
+use mshr_file::EitherFile;
 use slice_core::{CacheCopy, SliceState};
 
 /// Whether the delivery has closed the register of a core's line: it performs its first access, and none of the core
 /// waits for the line any more.
-pub(crate) fn is_closed<F: MissFile>(
-    is_first: bool,
-    machine: &Machine<F>,
-    core: CoreId,
-    line: LineAddr,
-) -> bool
+pub(crate) fn is_closed(is_first: bool, machine: &Machine, core: CoreId, line: LineAddr) -> bool
     requires { HasCore machine.now.config core }
     ensures { result ≡ is_closed is_first
         (slice_get machine.now.slices.items (line.0 % machine.now.config.slices)) core line }
@@ -30,7 +25,7 @@ pub(crate) fn is_closed<F: MissFile>(
 }
 
 // Whether no access of the core waits for the line. Its copy says so: a list of its targets is large.
-fn is_unwaited<F: MissFile>(state: &SliceState<F>, core: CoreId, line: LineAddr) -> bool
+fn is_unwaited(state: &SliceState<EitherFile>, core: CoreId, line: LineAddr) -> bool
     requires { core.0 < length state.now.view.caches }
     ensures { result ≡ (length (targets_at state.now.view core (local_at state.now.view.lines line.0)) == 0) }
 {

@@ -20,7 +20,6 @@ use super::usage::Usage;
 use litmus_script::TextWriter;
 use litmus_test::Progress;
 use litmus_text::TextFault;
-use mshr_file::{ExplicitFile, InvertedFile, MissFile, MissKind};
 use program_text::{Limits, Programs};
 use rand_core::SeedableRng;
 use rand_core::utils::NextWord;
@@ -85,29 +84,7 @@ fn run_read<P: Progress, W: Write>(
         programs.now form seed status (W.contents out.old) (W.contents out.new)) }
     ensures fault { IfErr result IsOfRun }
 {
-    match programs.misses {
-        MissKind::Explicit => {
-            run_on::<ExplicitFile, P, W>(alloc, programs, seed, form, progress, out)
-        }
-        MissKind::Inverted => {
-            run_on::<InvertedFile, P, W>(alloc, programs, seed, form, progress, out)
-        }
-    }
-}
-
-fn run_on<F: MissFile, P: Progress, W: Write>(
-    alloc: Global,
-    programs: &Programs,
-    seed: u64,
-    form: Form,
-    progress: &mut P,
-    out: &mut W,
-) -> Result<u8, TextFault>
-    ensures done { IfOk result (λ status. IsProgramsRun (F.bound_by programs.now.config)
-        programs.now form seed status (W.contents out.old) (W.contents out.new)) }
-    ensures fault { IfErr result IsOfRun }
-{
-    let mut runner = Runner::<F>::new(alloc, programs, false)?;
+    let mut runner = Runner::new(alloc, programs, false)?;
     run(alloc, programs, seed, &mut runner, progress)?;
     if runner.is_over(programs) {
         let usages = runner.usages(alloc, programs)?;
@@ -134,11 +111,11 @@ fn is_measured(limits: Limits) -> bool
 }
 
 /// Makes moves up to the end.
-pub(crate) fn run<F: MissFile, P: Progress>(
+pub(crate) fn run<P: Progress>(
     alloc: Global,
     programs: &Programs,
     seed: u64,
-    runner: &mut Runner<F>,
+    runner: &mut Runner,
     progress: &mut P,
 ) -> Result<(), AllocError>
     ensures { OnOk result (Leads (Runs runner.old.config programs.now seed) runner.old runner.new) }

@@ -3,6 +3,7 @@ ghost use Rattle.std.specs.Prelude.{◌==◌};
 ghost use Rattle.address_map.specs.Locator.{local_at};
 ghost use Rattle.litmus_script.specs.Machine.{HasAt, log_at};
 ghost use Rattle.litmus_text.specs.Command.{HasCore};
+ghost use Rattle.mshr_file.specs.Miss.{bound_of};
 ghost use Rattle.slice_core.specs.Facts.{front_at};
 ghost use Rattle.slice_core_plan.specs.View.{IsQuiet};
 ghost use Rattle.slice_queues_message.specs.Pick.{channel_of, line_of};
@@ -57,7 +58,6 @@ use address_map::{CoreId, LineAddr, Request, SliceId};
 use litmus_script::{Issued, Machine};
 use litmus_test::Progress;
 use litmus_text::Command;
-use mshr_file::MissFile;
 use program_text::{CoreProgram, Programs};
 use slice_core::{AccessKind, Decision, Delivered, Entry, Message, Pick, Placement};
 use std::alloc::{AllocError, Global};
@@ -68,14 +68,14 @@ const BETWEEN: u64 = 65_536;
 
 /// A run on its way: the machine with the calls that are made of it, where each program is, and what was seen.
 #[derive(Drop)]
-pub(crate) struct Runner<F: MissFile> {
-    machine: Machine<F>,
+pub(crate) struct Runner {
+    machine: Machine,
     calls: Calls,
     places: Vec<Place>,
     observer: Observer,
 }
 
-impl<F: MissFile> Model for Runner<F> {
+impl Model for Runner {
     ghost use Rattle.program_run.specs.Run.{RunnerView};
 
     ghost Value = { RunnerView };
@@ -89,18 +89,18 @@ impl<F: MissFile> Model for Runner<F> {
     } };
 }
 
-impl<F: MissFile> Runner<F> {
+impl Runner {
     ghost use Rattle.program_run.specs.Run.{IsNewRunner};
 
     /// Each program stands before its first step, on a new machine. Its calls are kept where they are wanted.
     pub fn new(alloc: Global, programs: &Programs, wanted: bool) -> Result<Self, AllocError>
         ensures { IfOk result
-            (IsNewRunner programs.now.config (F.bound_by programs.now.config) programs.now wanted) }
+            (IsNewRunner programs.now.config (bound_of programs.now.misses programs.now.config) programs.now wanted) }
     {
         let config = programs.config.try_clone(alloc)?;
         let observer = Observer::new(alloc, &config)?;
         let places = vec![in alloc; Place::first(); programs.cores.len()]?;
-        let Ok(machine) = Machine::build(alloc, config) else {
+        let Ok(machine) = Machine::build(alloc, config, programs.misses) else {
             return Err(AllocError);
         };
         Ok(Runner {
@@ -415,13 +415,7 @@ fn takes_of(decision: Decision) -> Takes
 }
 
 // Where room was made, the line that left is seen.
-fn make_room<F: MissFile>(
-    room: bool,
-    machine: &Machine<F>,
-    observer: &mut Observer,
-    core: CoreId,
-    line: LineAddr,
-)
+fn make_room(room: bool, machine: &Machine, observer: &mut Observer, core: CoreId, line: LineAddr)
     requires { HasCore machine.now.config core }
     ensures { (history : History) → HasSeen machine.now.config history observer.old
         → HasSeen machine.now.config (after_room machine.now.config.lines room
@@ -437,7 +431,7 @@ fn make_room<F: MissFile>(
 }
 
 // The line that left last in the slice of this line.
-fn left_in<F: MissFile>(machine: &Machine<F>, core: CoreId, line: LineAddr) -> Option<LineAddr>
+fn left_in(machine: &Machine, core: CoreId, line: LineAddr) -> Option<LineAddr>
     requires { HasCore machine.now.config core }
     ensures { result ≡ left_in (slice_get machine.now.slices.items (line.0 % machine.now.config.slices)) core }
 {
@@ -570,7 +564,7 @@ fn program_of(programs: &[CoreProgram], core: CoreId) -> Option<usize>
     programs.iter().position(|program| program.core.0 == core.0)
 }
 
-fn front_of<F: MissFile>(machine: &Machine<F>, pick: Pick) -> Option<Message>
+fn front_of(machine: &Machine, pick: Pick) -> Option<Message>
     ensures { HasAt machine.now.slices.items ((line_of pick).0 % machine.now.config.slices)
         (λ state. result ≡ front_at state.view (local_at state.view.lines (line_of pick).0) (channel_of pick)) }
 {

@@ -14,7 +14,7 @@ use address_map::Checked;
 use litmus_script::TextWriter;
 use litmus_test::Silent;
 use litmus_text::{Command, TextFault};
-use mshr_file::{ExplicitFile, InvertedFile, MissFile, MissKind};
+use mshr_file::MissKind;
 use program_text::{Limits, Programs};
 use script_text::{write_command, write_settings};
 use std::alloc::Global;
@@ -54,23 +54,7 @@ fn write_read<W: io::Write>(
         programs.now seed status (W.contents out.old) (W.contents out.new)) }
     ensures fault { IfErr result IsOfRun }
 {
-    match programs.misses {
-        MissKind::Explicit => write_on::<ExplicitFile, W>(alloc, programs, seed, out),
-        MissKind::Inverted => write_on::<InvertedFile, W>(alloc, programs, seed, out),
-    }
-}
-
-fn write_on<F: MissFile, W: io::Write>(
-    alloc: Global,
-    programs: &Programs,
-    seed: u64,
-    out: &mut W,
-) -> Result<u8, TextFault>
-    ensures done { IfOk result (λ status. PrintsSchedule (F.bound_by programs.now.config) programs.now seed status
-        (W.contents out.old) (W.contents out.new)) }
-    ensures fault { IfErr result IsOfRun }
-{
-    let mut runner = Runner::<F>::new(alloc, programs, true)?;
+    let mut runner = Runner::new(alloc, programs, true)?;
     let mut silent = Silent;
     run(alloc, programs, seed, &mut runner, &mut silent)?;
     print_script(&programs.config, programs.misses, runner.calls(), out)?;

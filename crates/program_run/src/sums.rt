@@ -7,7 +7,6 @@ use super::runner::Runner;
 use super::tally::Counts;
 use super::usage::{Usage, usage_of_all};
 use litmus_test::Silent;
-use mshr_file::{ExplicitFile, InvertedFile, MissFile, MissKind};
 use program_text::Programs;
 use std::alloc::{AllocError, Global};
 
@@ -28,20 +27,7 @@ pub fn count_programs(
 ) -> Result<Option<Sums>, AllocError>
     ensures { IfOk result (IsCounted (bound_of programs.now.misses programs.now.config) programs.now seed) }
 {
-    match programs.misses {
-        MissKind::Explicit => count_on::<ExplicitFile>(alloc, programs, seed),
-        MissKind::Inverted => count_on::<InvertedFile>(alloc, programs, seed),
-    }
-}
-
-fn count_on<F: MissFile>(
-    alloc: Global,
-    programs: &Programs,
-    seed: u64,
-) -> Result<Option<Sums>, AllocError>
-    ensures { IfOk result (IsCounted (F.bound_by programs.now.config) programs.now seed) }
-{
-    let mut runner = Runner::<F>::new(alloc, programs, false)?;
+    let mut runner = Runner::new(alloc, programs, false)?;
     let mut silent = Silent;
     run(alloc, programs, seed, &mut runner, &mut silent)?;
     if runner.is_over(programs) {

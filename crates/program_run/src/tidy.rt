@@ -10,7 +10,7 @@ ghost use Rattle.program_run.specs.Tidy.{Tidies, TidiesAll, TidiesSlice, idle_cl
 
 use super::kept::Kept;
 use litmus_script::Machine;
-use mshr_file::MissFile;
+use mshr_file::EitherFile;
 use slice_core::{Class, DeliveredNext, SliceState};
 
 /// After so many moves rings are looked at.
@@ -20,7 +20,7 @@ const PERIOD: u64 = 32;
 const LONG: usize = 32;
 
 /// After every 32nd move the lines without messages leave long rings.
-pub(crate) fn tidy<F: MissFile>(machine: &mut Machine<F>, made: u64, kept: &mut Kept)
+pub(crate) fn tidy(machine: &mut Machine, made: u64, kept: &mut Kept)
     requires { Knows machine.old.config machine.old.slices.items kept.old }
     ensures config { machine.new.config ≡ machine.old.config }
     ensures tidied { Tidies machine.old.config.slices made machine.old.slices.items machine.new.slices.items }
@@ -32,7 +32,7 @@ pub(crate) fn tidy<F: MissFile>(machine: &mut Machine<F>, made: u64, kept: &mut 
     }
 }
 
-fn tidy_all<F: MissFile>(machine: &mut Machine<F>)
+fn tidy_all(machine: &mut Machine)
     ensures config { machine.new.config ≡ machine.old.config }
     ensures tidied { TidiesAll (range_with_len 0 machine.old.config.slices) machine.old.slices.items
         machine.new.slices.items }
@@ -42,7 +42,7 @@ fn tidy_all<F: MissFile>(machine: &mut Machine<F>)
     }
 }
 
-fn tidy_slice<F: MissFile>(machine: &mut Machine<F>, slice: usize)
+fn tidy_slice(machine: &mut Machine, slice: usize)
     requires { slice < machine.old.config.slices }
     ensures config { machine.new.config ≡ machine.old.config }
     ensures tidied { TidiesSlice slice (tidied_by (slice_get machine.old.slices.items slice))
@@ -55,7 +55,7 @@ fn tidy_slice<F: MissFile>(machine: &mut Machine<F>, slice: usize)
 }
 
 // All lines of the slice's ring are looked at, where no message of the class can be moved.
-fn look_past<F: MissFile>(machine: &mut Machine<F>, slice: usize, class: Class)
+fn look_past(machine: &mut Machine, slice: usize, class: Class)
     requires { slice < machine.old.config.slices }
     ensures config { machine.new.config ≡ machine.old.config }
     ensures made { IsMade slice (slice_calls.DeliverNext class) machine.old.slices.items machine.new.slices.items }
@@ -63,7 +63,7 @@ fn look_past<F: MissFile>(machine: &mut Machine<F>, slice: usize, class: Class)
     let _ = deliver_next(machine, slice, class);
 }
 
-fn deliver_next<F: MissFile>(machine: &mut Machine<F>, slice: usize, class: Class) -> DeliveredNext
+fn deliver_next(machine: &mut Machine, slice: usize, class: Class) -> DeliveredNext
     requires { slice < machine.old.config.slices }
     ensures config { machine.new.config ≡ machine.old.config }
     ensures answered { IsAnswered slice (slice_calls.DeliverNext class) (call_answers.DeliverNext result)
@@ -73,7 +73,7 @@ fn deliver_next<F: MissFile>(machine: &mut Machine<F>, slice: usize, class: Clas
 }
 
 // A class of which a slice with a long ring has no message that can be moved.
-fn tidied_by<F: MissFile>(state: &SliceState<F>) -> Option<Class>
+fn tidied_by(state: &SliceState<EitherFile>) -> Option<Class>
     ensures { result ≡ tidied_by (Some state.now) }
 {
     if state.ring_line(LONG).is_some() {
@@ -83,7 +83,7 @@ fn tidied_by<F: MissFile>(state: &SliceState<F>) -> Option<Class>
     }
 }
 
-fn idle_class<F: MissFile>(state: &SliceState<F>) -> Option<Class>
+fn idle_class(state: &SliceState<EitherFile>) -> Option<Class>
     ensures { result ≡ idle_class state.now }
 {
     if !is_moved(state.next(Class::Home)) {

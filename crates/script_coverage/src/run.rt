@@ -15,7 +15,6 @@ use super::writer::Noting;
 use address_map::Checked;
 use litmus_script::{Commands, Machine, Script, TextWriter, written};
 use litmus_text::TextFault;
-use mshr_file::{ExplicitFile, InvertedFile, MissFile, MissKind};
 use protocol_coverage::Coverage;
 use script_explained::play_steps;
 use std::alloc::Global;
@@ -95,25 +94,7 @@ fn trail_of(alloc: Global, script: Script<'_>) -> Result<Vec<u8>, TextFault>
         misses,
         commands,
     } = script;
-    match misses {
-        MissKind::Explicit => trail_on::<ExplicitFile>(alloc, config, commands),
-        MissKind::Inverted => trail_on::<InvertedFile>(alloc, config, commands),
-    }
-}
-
-/// .. on a new machine with miss registers of type `F`.
-fn trail_on<F: MissFile>(
-    alloc: Global,
-    config: Checked,
-    commands: Commands<'_>,
-) -> Result<Vec<u8>, TextFault>
-    ensures played { IfOk result (λ trail. IsPlayedOn Notingly config (F.bound_by config)
-        (commands_of commands.entry) (Some []) (Some trail.items)) }
-    ensures fault { IfErr result (λ fault. IsOfRun fault ⊎ ((after : Option (List ℕ))
-        × IsPlayedUpTo Notingly config (F.bound_by config) (commands_of commands.entry)
-        (Some []) after fault)) }
-{
-    let machine: Machine<F> = Machine::build(alloc, config)?;
+    let machine = Machine::build(alloc, config, misses)?;
     let mut trail = Vec::new(alloc);
     match play_steps(alloc, machine, Noting, commands, &mut trail) {
         Ok(()) => Ok(trail),

@@ -7,7 +7,6 @@ ghost use Rattle.script_coverage.specs.Trail.{IsNumberOf, Notes};
 use super::cell::{cell_of, cell_of_delivery};
 use litmus_script::Machine;
 use litmus_text::{Statement, TextFault};
-use mshr_file::MissFile;
 use protocol_coverage::Cell;
 use script_explained::{DeliveryStep, Step, StepWriter};
 use stats_report::write_text;
@@ -24,9 +23,9 @@ impl StepWriter for Noting {
 
     ghost writes_next = { λ _. NotesNext };
 
-    fn write<F: MissFile, W: Write>(
+    fn write<W: Write>(
         &self,
-        _machine: &Machine<F>,
+        _machine: &Machine,
         _statement: &Statement<'_>,
         step: &Step,
         out: &mut W,
@@ -34,9 +33,9 @@ impl StepWriter for Noting {
         note(cell_of(step), out)
     }
 
-    fn write_next<F: MissFile, W: Write>(
+    fn write_next<W: Write>(
         &self,
-        _machine: &Machine<F>,
+        _machine: &Machine,
         _number: usize,
         delivery: DeliveryStep,
         out: &mut W,

@@ -11,7 +11,6 @@ use super::explaining::Explaining;
 use super::stepper::Stepper;
 use litmus_script::{Commands, Machine, Style, run_in_style};
 use litmus_text::TextFault;
-use mshr_file::MissFile;
 use std::alloc::Global;
 use std::io::Write;
 
@@ -44,9 +43,9 @@ impl Style for SideBySide {
 
     ghost playing = { λ style. IsBeside (Told style.explain) };
 
-    fn play<F: MissFile, W: Write>(
+    fn play<W: Write>(
         &self,
-        machine: Machine<F>,
+        machine: Machine,
         commands: Commands<'_>,
         out: &mut W,
     ) -> Result<(), TextFault> {
@@ -60,9 +59,9 @@ impl Style for SideBySide {
 }
 
 /// Plays commands, and tells what happened.
-fn play_explained<F: MissFile, W: Write>(
+fn play_explained<W: Write>(
     alloc: Global,
-    machine: Machine<F>,
+    machine: Machine,
     commands: Commands<'_>,
     out: &mut W,
 ) -> Result<(), TextFault>
@@ -78,9 +77,9 @@ fn play_explained<F: MissFile, W: Write>(
 }
 
 /// Plays commands.
-fn play_plain<F: MissFile, W: Write>(
+fn play_plain<W: Write>(
     alloc: Global,
-    machine: Machine<F>,
+    machine: Machine,
     commands: Commands<'_>,
     out: &mut W,
 ) -> Result<(), TextFault>

@@ -15,18 +15,14 @@ ghost use Rattle.slice_queues_message.specs.declared.channel.Class.TheVariants a
 use super::look;
 use super::step::DeliveryStep;
 use address_map::CoreId;
-use mshr_file::MissFile;
+use mshr_file::EitherFile;
 use script_text::Delivery;
 use slice_core::{Class, Delivered, DeliveredNext, Pick, Plan, SliceState};
 use std::fmt;
 use step_text::{Case, Done, Event, ExplainedDelivery, Who};
 
 /// Delivers the message in front of a channel of the slice with this number.
-pub(crate) fn deliver<F: MissFile>(
-    state: &mut SliceState<F>,
-    slice: usize,
-    pick: Pick,
-) -> DeliveryStep
+pub(crate) fn deliver(state: &mut SliceState<EitherFile>, slice: usize, pick: Pick) -> DeliveryStep
     ensures same { IsSameSlice state.old state.new }
     ensures pick { result.pick ≡ pick }
     ensures made { IsDelivery slice result state.old state.new }
@@ -45,8 +41,8 @@ pub(crate) fn deliver<F: MissFile>(
 
 /// Makes the next delivery of the slice with this number, where one can be made. Returns the slice's answer, and the
 /// delivery's step.
-pub(crate) fn deliver_next<F: MissFile>(
-    state: &mut SliceState<F>,
+pub(crate) fn deliver_next(
+    state: &mut SliceState<EitherFile>,
     slice: usize,
 ) -> (DeliveredNext, Option<DeliveryStep>)
     ensures same { IsSameSlice state.old state.new }
@@ -59,8 +55,8 @@ pub(crate) fn deliver_next<F: MissFile>(
 }
 
 /// Makes the next delivery of a slice, which is at this pick.
-fn deliver_picked<F: MissFile>(
-    state: &mut SliceState<F>,
+fn deliver_picked(
+    state: &mut SliceState<EitherFile>,
     slice: usize,
     pick: Pick,
 ) -> (DeliveredNext, Option<DeliveryStep>)
@@ -125,7 +121,7 @@ fn told(
 }
 
 /// The case that the message in front of a channel meets.
-fn case<F: MissFile>(state: &SliceState<F>, slice: usize, pick: Pick) -> Option<Case>
+fn case(state: &SliceState<EitherFile>, slice: usize, pick: Pick) -> Option<Case>
     ensures { result ≡ case_at slice state.now.view pick }
 {
     let message = state.front(pick)?;
@@ -136,7 +132,7 @@ fn case<F: MissFile>(state: &SliceState<F>, slice: usize, pick: Pick) -> Option<
 }
 
 /// Who takes the messages of a channel.
-fn who<F: MissFile>(state: &SliceState<F>, slice: usize, pick: Pick) -> Who
+fn who(state: &SliceState<EitherFile>, slice: usize, pick: Pick) -> Who
     ensures { result ≡ who_takes slice state.now.view pick }
 {
     match pick {
@@ -167,7 +163,7 @@ fn core(pick: Pick) -> CoreId
 }
 
 /// What was done, where the log was so long before.
-fn done<F: MissFile>(state: &SliceState<F>, first: usize, pick: Pick) -> Done
+fn done(state: &SliceState<EitherFile>, first: usize, pick: Pick) -> Done
     ensures { result ≡ done_at first state.now.view pick }
 {
     let line = pick.line();

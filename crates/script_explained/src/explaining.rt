@@ -21,7 +21,6 @@ use super::stepper::StepWriter;
 use super::unrest::write_word;
 use litmus_script::{Machine, Pumped, TextWriter, write_pumped, written};
 use litmus_text::{Statement, TextFault};
-use mshr_file::MissFile;
 use stats_report::write_text;
 use std::alloc::Global;
 use std::io::Write;
@@ -39,9 +38,9 @@ impl StepWriter for Explaining {
 
     ghost writes_next = { λ _. ExplainsNext };
 
-    fn write<F: MissFile, W: Write>(
+    fn write<W: Write>(
         &self,
-        machine: &Machine<F>,
+        machine: &Machine,
         _statement: &Statement<'_>,
         step: &Step,
         out: &mut W,
@@ -57,9 +56,9 @@ impl StepWriter for Explaining {
         }
     }
 
-    fn write_next<F: MissFile, W: Write>(
+    fn write_next<W: Write>(
         &self,
-        _machine: &Machine<F>,
+        _machine: &Machine,
         _number: usize,
         delivery: DeliveryStep,
         out: &mut W,
@@ -69,9 +68,9 @@ impl StepWriter for Explaining {
     }
 }
 
-fn explain_access<F: MissFile, W: Write>(
+fn explain_access<W: Write>(
     alloc: Global,
-    machine: &Machine<F>,
+    machine: &Machine,
     access: AccessStep,
     out: &mut W,
 ) -> Result<(), TextFault>
@@ -85,9 +84,9 @@ fn explain_access<F: MissFile, W: Write>(
     write_access(alloc, &machine.slices[slice], access, out)
 }
 
-fn explain_eviction<F: MissFile, W: Write>(
+fn explain_eviction<W: Write>(
     alloc: Global,
-    machine: &Machine<F>,
+    machine: &Machine,
     eviction: EvictionStep,
     out: &mut W,
 ) -> Result<(), TextFault>

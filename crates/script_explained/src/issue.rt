@@ -15,7 +15,7 @@ use super::step::{AccessStep, EvictionStep};
 use address_map::{CoreId, LineAddr, Request};
 use litmus_script::{TextWriter, written};
 use litmus_text::TextFault;
-use mshr_file::MissFile;
+use mshr_file::EitherFile;
 use slice_core::{CoreLines, Evicted, Pick, SliceState};
 use std::alloc::Global;
 use std::fmt;
@@ -23,8 +23,8 @@ use std::io::Write;
 use step_text::{Case, Event, Eviction, Issue, Who};
 
 /// Asks for an access of a core in the slice with this number.
-pub(crate) fn issue<F: MissFile>(
-    state: &mut SliceState<F>,
+pub(crate) fn issue(
+    state: &mut SliceState<EitherFile>,
     slice: usize,
     core: CoreId,
     request: Request,
@@ -46,12 +46,7 @@ pub(crate) fn issue<F: MissFile>(
 }
 
 /// The access, as it is decided.
-fn decided<F: MissFile>(
-    state: &SliceState<F>,
-    slice: usize,
-    core: CoreId,
-    request: Request,
-) -> Issue
+fn decided(state: &SliceState<EitherFile>, slice: usize, core: CoreId, request: Request) -> Issue
     requires { core.0 < length state.now.view.caches }
     ensures { result ≡ issue_at slice state.now.view core request }
 {
@@ -70,9 +65,9 @@ fn decided<F: MissFile>(
 }
 
 /// Writes what became of an access and why, with its copies as the slice has them after it.
-pub(crate) fn write_access<F: MissFile, W: Write>(
+pub(crate) fn write_access<W: Write>(
     alloc: Global,
-    state: &SliceState<F>,
+    state: &SliceState<EitherFile>,
     access: AccessStep,
     out: &mut W,
 ) -> Result<(), TextFault>
@@ -91,8 +86,8 @@ pub(crate) fn write_access<F: MissFile, W: Write>(
     written(write_issue(state, &access, which, lines.as_slice(), &mut answers))
 }
 
-fn write_issue<F: MissFile, W: fmt::Write>(
-    state: &SliceState<F>,
+fn write_issue<W: fmt::Write>(
+    state: &SliceState<EitherFile>,
     access: &AccessStep,
     which: Named,
     lines: &[u64],
@@ -111,8 +106,8 @@ fn write_issue<F: MissFile, W: fmt::Write>(
 }
 
 /// Asks for an eviction in the slice with this number.
-pub(crate) fn evict<F: MissFile>(
-    state: &mut SliceState<F>,
+pub(crate) fn evict(
+    state: &mut SliceState<EitherFile>,
     slice: usize,
     core: CoreId,
     line: LineAddr,
@@ -146,9 +141,9 @@ pub(crate) fn evict<F: MissFile>(
 }
 
 /// Writes what became of an eviction and why, with the copies in its way as the slice has them after it.
-pub(crate) fn write_evicted<F: MissFile, W: Write>(
+pub(crate) fn write_evicted<W: Write>(
     alloc: Global,
-    state: &SliceState<F>,
+    state: &SliceState<EitherFile>,
     step: EvictionStep,
     out: &mut W,
 ) -> Result<(), TextFault>
@@ -162,8 +157,8 @@ pub(crate) fn write_evicted<F: MissFile, W: Write>(
     written(write_eviction(state, &step, which, lines.as_slice(), &mut answers))
 }
 
-fn write_eviction<F: MissFile, W: fmt::Write>(
-    state: &SliceState<F>,
+fn write_eviction<W: fmt::Write>(
+    state: &SliceState<EitherFile>,
     step: &EvictionStep,
     which: Named,
     lines: &[u64],

@@ -3,11 +3,11 @@ ghost use Rattle.std.specs.Prelude.{◌≡◌};
 ghost use Rattle.script_explained.specs.Look.{copy_at, entry_of};
 
 use address_map::{CoreId, LineAddr};
-use mshr_file::MissFile;
+use mshr_file::EitherFile;
 use slice_core::{CopyState, DirState, SliceState};
 
 /// The state of a core's copy of a line.
-pub(crate) fn copy<F: MissFile>(state: &SliceState<F>, line: LineAddr, core: CoreId) -> CopyState
+pub(crate) fn copy(state: &SliceState<EitherFile>, line: LineAddr, core: CoreId) -> CopyState
     ensures { result ≡ copy_at state.now.view line core }
 {
     if core.0 as usize >= state.cores() {
@@ -20,7 +20,7 @@ pub(crate) fn copy<F: MissFile>(state: &SliceState<F>, line: LineAddr, core: Cor
 }
 
 /// The state of the directory's entry of a line.
-pub(crate) fn entry<F: MissFile>(state: &SliceState<F>, line: LineAddr) -> DirState
+pub(crate) fn entry(state: &SliceState<EitherFile>, line: LineAddr) -> DirState
     ensures { result ≡ entry_of state.now.view line }
 {
     match state.line_view(line) {

@@ -11,16 +11,11 @@ use super::{delivery, issue, unrest};
 use address_map::{CoreId, LineAddr, Request, SliceId, WordAddr};
 use litmus_script::Machine;
 use litmus_text::{Command, TextFault};
-use mshr_file::MissFile;
 use slice_core::{DeliveredNext, Pick};
 use std::alloc::Global;
 
 /// Plays a command as one step. A pump is many: as one it does nothing.
-pub fn make_step<F: MissFile>(
-    alloc: Global,
-    machine: &mut Machine<F>,
-    command: Command,
-) -> Result<Step, TextFault>
+pub fn make_step(alloc: Global, machine: &mut Machine, command: Command) -> Result<Step, TextFault>
     requires { IsInRange machine.old.config command }
     ensures config { machine.new.config ≡ machine.old.config }
     ensures fault { IfErr result IsOfRun }
@@ -43,11 +38,7 @@ pub fn make_step<F: MissFile>(
 }
 
 /// Shows what a command shows.
-fn show<F: MissFile>(
-    alloc: Global,
-    machine: &mut Machine<F>,
-    command: Command,
-) -> Result<Step, TextFault>
+fn show(alloc: Global, machine: &mut Machine, command: Command) -> Result<Step, TextFault>
     requires range { IsInRange machine.old.config command }
     requires look { is_look command ≡ true }
     ensures config { machine.new.config ≡ machine.old.config }
@@ -59,11 +50,7 @@ fn show<F: MissFile>(
     Ok(Step::Show { command, text })
 }
 
-fn shown<F: MissFile>(
-    alloc: Global,
-    machine: &mut Machine<F>,
-    command: Command,
-) -> Result<Vec<u8>, TextFault>
+fn shown(alloc: Global, machine: &mut Machine, command: Command) -> Result<Vec<u8>, TextFault>
     requires range { IsInRange machine.old.config command }
     requires look { is_look command ≡ true }
     ensures config { machine.new.config ≡ machine.old.config }
@@ -79,11 +66,7 @@ fn shown<F: MissFile>(
     }
 }
 
-fn issue_step<F: MissFile>(
-    machine: &mut Machine<F>,
-    core: CoreId,
-    request: Request,
-) -> Result<Step, TextFault>
+fn issue_step(machine: &mut Machine, core: CoreId, request: Request) -> Result<Step, TextFault>
     requires { HasCore machine.old.config core }
     ensures config { machine.new.config ≡ machine.old.config }
     ensures fault { IfErr result IsOfRun }
@@ -95,8 +78,8 @@ fn issue_step<F: MissFile>(
     Ok(Step::Issue(access))
 }
 
-fn issue_in<F: MissFile>(
-    machine: &mut Machine<F>,
+fn issue_in(
+    machine: &mut Machine,
     slice: usize,
     core: CoreId,
     request: Request,
@@ -114,7 +97,7 @@ fn issue_in<F: MissFile>(
     issue::issue(&mut slices[slice], slice, core, request)
 }
 
-fn evict_step<F: MissFile>(machine: &mut Machine<F>, core: CoreId, line: LineAddr) -> Step
+fn evict_step(machine: &mut Machine, core: CoreId, line: LineAddr) -> Step
     requires { HasCore machine.old.config core }
     ensures config { machine.new.config ≡ machine.old.config }
     ensures step { MakesStep machine.old.config (commands.Evict core line)
@@ -124,12 +107,7 @@ fn evict_step<F: MissFile>(machine: &mut Machine<F>, core: CoreId, line: LineAdd
     Step::Evict(evict_in(machine, slice, core, line))
 }
 
-fn evict_in<F: MissFile>(
-    machine: &mut Machine<F>,
-    slice: usize,
-    core: CoreId,
-    line: LineAddr,
-) -> EvictionStep
+fn evict_in(machine: &mut Machine, slice: usize, core: CoreId, line: LineAddr) -> EvictionStep
     requires core { HasCore machine.old.config core }
     requires slice { slice < length machine.old.slices.items }
     ensures config { machine.new.config ≡ machine.old.config }
@@ -142,7 +120,7 @@ fn evict_in<F: MissFile>(
     issue::evict(&mut slices[slice], slice, core, line)
 }
 
-fn deliver_step<F: MissFile>(machine: &mut Machine<F>, pick: Pick) -> Step
+fn deliver_step(machine: &mut Machine, pick: Pick) -> Step
     ensures config { machine.new.config ≡ machine.old.config }
     ensures step { MakesStep machine.old.config (commands.Deliver pick)
         machine.old.slices.items machine.new.slices.items result }
@@ -151,7 +129,7 @@ fn deliver_step<F: MissFile>(machine: &mut Machine<F>, pick: Pick) -> Step
     Step::Deliver(deliver_in(machine, slice, pick))
 }
 
-fn deliver_in<F: MissFile>(machine: &mut Machine<F>, slice: usize, pick: Pick) -> DeliveryStep
+fn deliver_in(machine: &mut Machine, slice: usize, pick: Pick) -> DeliveryStep
     requires { slice < length machine.old.slices.items }
     ensures config { machine.new.config ≡ machine.old.config }
     ensures pick { result.pick ≡ pick }
@@ -162,8 +140,8 @@ fn deliver_in<F: MissFile>(machine: &mut Machine<F>, slice: usize, pick: Pick) -
 }
 
 /// Makes the next delivery of a slice, where one can be made. Returns the slice's answer, and the delivery's step.
-pub(crate) fn deliver_next<F: MissFile>(
-    machine: &mut Machine<F>,
+pub(crate) fn deliver_next(
+    machine: &mut Machine,
     slice: usize,
 ) -> (DeliveredNext, Option<DeliveryStep>)
     requires { slice < machine.old.config.slices }
@@ -174,7 +152,7 @@ pub(crate) fn deliver_next<F: MissFile>(
     delivery::deliver_next(&mut machine.slices[slice], slice)
 }
 
-fn hand_step<F: MissFile>(machine: &mut Machine<F>, core: CoreId, slice: SliceId) -> Step
+fn hand_step(machine: &mut Machine, core: CoreId, slice: SliceId) -> Step
     requires core { HasCore machine.old.config core }
     requires slice { slice.0 < machine.old.config.slices }
     ensures config { machine.new.config ≡ machine.old.config }
@@ -189,7 +167,7 @@ fn hand_step<F: MissFile>(machine: &mut Machine<F>, core: CoreId, slice: SliceId
     })
 }
 
-fn word_step<F: MissFile>(machine: &Machine<F>, word: WordAddr) -> Step
+fn word_step(machine: &Machine, word: WordAddr) -> Step
     requires { word.0 / 8 < machine.now.config.lines }
     ensures step { MakesStep machine.now.config (commands.Word word)
         machine.now.slices.items machine.now.slices.items result }

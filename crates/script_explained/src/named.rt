@@ -6,7 +6,7 @@ ghost use Rattle.script_explained.specs.Named.{AreNamed};
 
 use super::look;
 use address_map::{CoreId, LineAddr};
-use mshr_file::MissFile;
+use mshr_file::EitherFile;
 use slice_core::{AccessKind, CopyState, CoreLines, Decision, Placement, SliceState, Stall};
 use std::alloc::{AllocError, Global};
 use std::fmt;
@@ -50,10 +50,10 @@ impl Named {
 }
 
 /// The lines of these copies by their numbers, in ascending order.
-pub(crate) fn named_lines<F: MissFile>(
+pub(crate) fn named_lines(
     alloc: Global,
     which: Named,
-    state: &SliceState<F>,
+    state: &SliceState<EitherFile>,
     core: CoreId,
 ) -> Result<Vec<u64>, AllocError>
     requires { core.0 < length state.now.view.caches }
@@ -66,10 +66,10 @@ pub(crate) fn named_lines<F: MissFile>(
 }
 
 /// The same by their addresses, in any order.
-fn lines_of<F: MissFile>(
+fn lines_of(
     alloc: Global,
     which: Named,
-    state: &SliceState<F>,
+    state: &SliceState<EitherFile>,
     core: CoreId,
 ) -> Result<Vec<LineAddr>, AllocError>
     requires { core.0 < length state.now.view.caches }
@@ -103,10 +103,10 @@ fn numbers_of(alloc: Global, lines: &[LineAddr]) -> Result<Vec<u64>, AllocError>
 }
 
 /// Writes a core's copies of these lines, each with its state.
-pub(crate) fn write_copies<F: MissFile, W: Write>(
+pub(crate) fn write_copies<W: Write>(
     which: Named,
     lines: &[u64],
-    state: &SliceState<F>,
+    state: &SliceState<EitherFile>,
     core: CoreId,
     out: &mut W,
 ) -> fmt::Result
@@ -119,10 +119,10 @@ pub(crate) fn write_copies<F: MissFile, W: Write>(
     Ok(())
 }
 
-fn write_copy<F: MissFile, W: Write>(
+fn write_copy<W: Write>(
     which: Named,
     line: u64,
-    state: &SliceState<F>,
+    state: &SliceState<EitherFile>,
     core: CoreId,
     out: &mut W,
 ) -> fmt::Result

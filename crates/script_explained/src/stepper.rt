@@ -9,7 +9,6 @@ use super::step::{DeliveryStep, Step};
 use address_map::Checked;
 use litmus_script::{Deliverer, Machine, Player, pump_slices};
 use litmus_text::{Command, Statement, TextFault};
-use mshr_file::MissFile;
 use slice_core::DeliveredNext;
 use std::alloc::Global;
 use std::io::Write;
@@ -23,9 +22,9 @@ pub trait StepWriter: Copy {
     ghost writes_next: { Self → WritingNext };
 
     /// Writes the step of a statement's command, where the machine is this after it.
-    fn write<F: MissFile, W: Write>(
+    fn write<W: Write>(
         &self,
-        machine: &Machine<F>,
+        machine: &Machine,
         statement: &Statement<'_>,
         step: &Step,
         out: &mut W,
@@ -36,9 +35,9 @@ pub trait StepWriter: Copy {
         ensures fault { IfErr result IsOfRun };
 
     /// Writes a delivery that the pump of this line of the text made, where the machine is this after it.
-    fn write_next<F: MissFile, W: Write>(
+    fn write_next<W: Write>(
         &self,
-        machine: &Machine<F>,
+        machine: &Machine,
         number: usize,
         delivery: DeliveryStep,
         out: &mut W,
@@ -50,15 +49,15 @@ pub trait StepWriter: Copy {
 
 /// A player that plays each command as a step, and each delivery of a pump as one.
 #[derive(Drop)]
-pub struct Stepper<F: MissFile, S: StepWriter> {
-    pub machine: Machine<F>,
+pub struct Stepper<S: StepWriter> {
+    pub machine: Machine,
     pub writer: S,
     pub alloc: Global,
     /// The place in the script of the pump that is played.
     number: usize,
 }
 
-impl<F: MissFile, S: StepWriter> Player for Stepper<F, S> {
+impl<S: StepWriter> Player for Stepper<S> {
     ghost use Rattle.std.specs.Prelude.{◌≡◌};
     ghost use Rattle.script_explained.specs.Step.{AreSteps};
 
@@ -86,7 +85,7 @@ impl<F: MissFile, S: StepWriter> Player for Stepper<F, S> {
     }
 }
 
-impl<F: MissFile, S: StepWriter> Deliverer for Stepper<F, S> {
+impl<S: StepWriter> Deliverer for Stepper<S> {
     ghost use Rattle.std.specs.Prelude.{◌≡◌};
     ghost use Rattle.script_explained.specs.Step.{IsNextStep};
 
@@ -112,8 +111,8 @@ impl<F: MissFile, S: StepWriter> Deliverer for Stepper<F, S> {
     }
 }
 
-impl<F: MissFile, S: StepWriter> Stepper<F, S> {
-    pub fn new(alloc: Global, machine: Machine<F>, writer: S) -> Self
+impl<S: StepWriter> Stepper<S> {
+    pub fn new(alloc: Global, machine: Machine, writer: S) -> Self
         ensures machine { result.machine ≡ machine }
         ensures writer { result.writer ≡ writer }
     {

@@ -10,7 +10,6 @@ use super::explaining::Explaining;
 use super::stepper::{StepWriter, Stepper};
 use litmus_script::{Commands, Echo, Machine, Style, run_in_style};
 use litmus_text::TextFault;
-use mshr_file::MissFile;
 use std::alloc::Global;
 use std::io::Write;
 
@@ -51,9 +50,9 @@ impl<S: StepWriter> Style for Stepwise<S> {
     ghost playing = { λ style. Echoed style.echo
         (PlaysSteps (S.writes style.writer) (S.writes_next style.writer)) };
 
-    fn play<F: MissFile, W: Write>(
+    fn play<W: Write>(
         &self,
-        machine: Machine<F>,
+        machine: Machine,
         commands: Commands<'_>,
         out: &mut W,
     ) -> Result<(), TextFault> {
@@ -66,9 +65,9 @@ impl<S: StepWriter> Style for Stepwise<S> {
 }
 
 /// Plays commands as steps, each after the command's own line.
-fn play_echoed<F: MissFile, S: StepWriter, W: Write>(
+fn play_echoed<S: StepWriter, W: Write>(
     alloc: Global,
-    machine: Machine<F>,
+    machine: Machine,
     writer: S,
     commands: Commands<'_>,
     out: &mut W,
@@ -85,9 +84,9 @@ fn play_echoed<F: MissFile, S: StepWriter, W: Write>(
 }
 
 /// Plays commands as steps, which a writer writes.
-pub fn play_steps<F: MissFile, S: StepWriter, W: Write>(
+pub fn play_steps<S: StepWriter, W: Write>(
     alloc: Global,
-    machine: Machine<F>,
+    machine: Machine,
     writer: S,
     commands: Commands<'_>,
     out: &mut W,

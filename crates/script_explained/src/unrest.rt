@@ -6,7 +6,7 @@ ghost use Rattle.script_explained.specs.Unrest.{first_unrest, replies_in, replie
 
 use super::step::WordStep;
 use address_map::{Checked, CoreId, WordAddr};
-use mshr_file::MissFile;
+use mshr_file::EitherFile;
 use script_text::Delivery;
 use slice_core::{Pick, SliceState, TagState};
 use std::fmt;
@@ -41,9 +41,9 @@ impl fmt::Display for Unrest {
 }
 
 /// The step of a word that is asked for, of which this is shown.
-pub(crate) fn word<F: MissFile>(
+pub(crate) fn word(
     config: &Checked,
-    state: &SliceState<F>,
+    state: &SliceState<EitherFile>,
     word: WordAddr,
     shown: Option<u64>,
 ) -> WordStep
@@ -72,7 +72,7 @@ pub(crate) fn write_word<W: fmt::Write>(step: WordStep, out: &mut W) -> fmt::Res
 }
 
 /// The first message in flight, and where there is none, the first reply that isn't handed out.
-fn first<F: MissFile>(config: &Checked, state: &SliceState<F>) -> Option<Unrest>
+fn first(config: &Checked, state: &SliceState<EitherFile>) -> Option<Unrest>
     requires { length state.now.view.caches ≡ config.now.cores }
     ensures { result ≡ first_unrest state.now.view }
 {
@@ -82,7 +82,7 @@ fn first<F: MissFile>(config: &Checked, state: &SliceState<F>) -> Option<Unrest>
     }
 }
 
-fn first_reply<F: MissFile>(config: &Checked, state: &SliceState<F>) -> Option<Unrest>
+fn first_reply(config: &Checked, state: &SliceState<EitherFile>) -> Option<Unrest>
     requires { length state.now.view.caches ≡ config.now.cores }
     ensures { result ≡ slice_get (replies_in state.now.view (range_with_len 0 (length state.now.view.caches))) 0 }
 {
@@ -95,7 +95,7 @@ fn first_reply<F: MissFile>(config: &Checked, state: &SliceState<F>) -> Option<U
     None
 }
 
-fn first_reply_of<F: MissFile>(state: &SliceState<F>, core: CoreId) -> Option<Unrest>
+fn first_reply_of(state: &SliceState<EitherFile>, core: CoreId) -> Option<Unrest>
     requires { core.0 < length state.now.view.caches }
     ensures { result ≡ slice_get (replies_of state.now.view core) 0 }
 {

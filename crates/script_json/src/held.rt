@@ -12,7 +12,7 @@ use address_map::{CoreId, LineAddr};
 use arrayvec::ArrayVec;
 use json_text::write_comma;
 use litmus_script::Machine;
-use mshr_file::MissFile;
+use mshr_file::EitherFile;
 use slice_core::{CopyState, DirState, LineView, LineWaiting, SliceState};
 use slice_json::{write_copy_in, write_line_in};
 use std::fmt;
@@ -27,8 +27,8 @@ pub(crate) enum Choice {
 }
 
 /// Writes the chosen lines of a machine as items of a list, which may have begun.
-pub(crate) fn write_lines<F: MissFile, W: fmt::Write>(
-    machine: &Machine<F>,
+pub(crate) fn write_lines<W: fmt::Write>(
+    machine: &Machine,
     choice: Choice,
     is_first: bool,
     out: &mut W,
@@ -49,7 +49,7 @@ pub(crate) fn write_lines<F: MissFile, W: fmt::Write>(
     Ok(())
 }
 
-fn is_chosen_at<F: MissFile>(machine: &Machine<F>, choice: Choice, line: LineAddr) -> bool
+fn is_chosen_at(machine: &Machine, choice: Choice, line: LineAddr) -> bool
     ensures { result ≡ is_chosen_in choice line
         (slice_get machine.now.slices.items (line.0 % machine.now.config.slices)) }
 {
@@ -60,11 +60,7 @@ fn is_chosen_at<F: MissFile>(machine: &Machine<F>, choice: Choice, line: LineAdd
 }
 
 /// Writes a line of a machine.
-fn write_at<F: MissFile, W: fmt::Write>(
-    machine: &Machine<F>,
-    line: LineAddr,
-    out: &mut W,
-) -> fmt::Result
+fn write_at<W: fmt::Write>(machine: &Machine, line: LineAddr, out: &mut W) -> fmt::Result
     ensures { OnOk result (WritesInCalls W.write_str_gives out.old
         (text_in line (slice_get machine.now.slices.items (line.0 % machine.now.config.slices))) out.new) }
 {
@@ -74,7 +70,7 @@ fn write_at<F: MissFile, W: fmt::Write>(
     }
 }
 
-fn is_chosen<F: MissFile>(state: &SliceState<F>, choice: Choice, line: LineAddr) -> bool
+fn is_chosen(state: &SliceState<EitherFile>, choice: Choice, line: LineAddr) -> bool
     ensures { result ≡ is_chosen choice state.now.view (local_at state.now.view.lines line.0) }
 {
     match choice {
@@ -83,7 +79,7 @@ fn is_chosen<F: MissFile>(state: &SliceState<F>, choice: Choice, line: LineAddr)
     }
 }
 
-fn has_message<F: MissFile>(state: &SliceState<F>, line: LineAddr) -> bool
+fn has_message(state: &SliceState<EitherFile>, line: LineAddr) -> bool
     ensures { result ≡ has_message state.now.view (local_at state.now.view.lines line.0) }
 {
     match state.waiting_at(line) {
@@ -100,7 +96,7 @@ fn is_any(waiting: LineWaiting<'_>) -> bool
     left.next().is_some()
 }
 
-fn is_moving<F: MissFile>(state: &SliceState<F>, line: LineAddr) -> bool
+fn is_moving(state: &SliceState<EitherFile>, line: LineAddr) -> bool
     ensures { result ≡ is_moving state.now.view (local_at state.now.view.lines line.0) }
 {
     match state.line_view(line) {
@@ -136,8 +132,8 @@ fn is_gone(state: CopyState) -> bool
 }
 
 /// Writes a line with its messages, and the copies of it.
-fn write_held<F: MissFile, W: fmt::Write>(
-    state: &SliceState<F>,
+fn write_held<W: fmt::Write>(
+    state: &SliceState<EitherFile>,
     line: LineAddr,
     out: &mut W,
 ) -> fmt::Result
@@ -151,8 +147,8 @@ fn write_held<F: MissFile, W: fmt::Write>(
 }
 
 /// Writes the copies of a line.
-fn write_copies<F: MissFile, W: fmt::Write>(
-    state: &SliceState<F>,
+fn write_copies<W: fmt::Write>(
+    state: &SliceState<EitherFile>,
     line: LineAddr,
     out: &mut W,
 ) -> fmt::Result
@@ -171,8 +167,8 @@ fn count_of(copies: &ArrayVec<CopyState, 64>) -> u8
     copies.len() as u8
 }
 
-fn write_copies_of<F: MissFile, W: fmt::Write>(
-    state: &SliceState<F>,
+fn write_copies_of<W: fmt::Write>(
+    state: &SliceState<EitherFile>,
     line: LineAddr,
     cores: u8,
     out: &mut W,
@@ -193,7 +189,7 @@ fn write_copies_of<F: MissFile, W: fmt::Write>(
 }
 
 /// Whether something is left of a core's copy.
-fn has_copy<F: MissFile>(state: &SliceState<F>, line: LineAddr, core: CoreId) -> bool
+fn has_copy(state: &SliceState<EitherFile>, line: LineAddr, core: CoreId) -> bool
     requires { core.0 < length state.now.view.caches }
     ensures { result ≡ has_copy state.now.view line core }
 {

@@ -10,13 +10,12 @@ use super::item::write_shown;
 use super::slices::write_slices;
 use litmus_script::{Machine, TextWriter, written};
 use litmus_text::{Command, TextFault};
-use mshr_file::MissFile;
 use std::fmt;
 use std::io::Write;
 
 /// Writes what a command shows of a machine, of which this text is printed.
-pub(crate) fn write_look<F: MissFile, W: Write>(
-    machine: &Machine<F>,
+pub(crate) fn write_look<W: Write>(
+    machine: &Machine,
     command: Command,
     text: &[u8],
     out: &mut W,
@@ -33,7 +32,7 @@ pub(crate) fn write_look<F: MissFile, W: Write>(
 }
 
 /// Writes the lines where messages wait.
-fn write_waiting<F: MissFile, W: Write>(machine: &Machine<F>, out: &mut W) -> Result<(), TextFault>
+fn write_waiting<W: Write>(machine: &Machine, out: &mut W) -> Result<(), TextFault>
     ensures written { OnOk result (Appends (W.contents out.old) (W.contents out.new)
         (items_waiting machine.now.config machine.now.slices.items)) }
     ensures fault { IfErr result IsOfRun }
@@ -43,7 +42,7 @@ fn write_waiting<F: MissFile, W: Write>(machine: &Machine<F>, out: &mut W) -> Re
 }
 
 /// Writes all that isn't at rest.
-fn write_moving<F: MissFile, W: Write>(machine: &Machine<F>, out: &mut W) -> Result<(), TextFault>
+fn write_moving<W: Write>(machine: &Machine, out: &mut W) -> Result<(), TextFault>
     ensures written { OnOk result (Appends (W.contents out.old) (W.contents out.new)
         (items_moving machine.now.config machine.now.slices.items)) }
     ensures fault { IfErr result IsOfRun }
@@ -53,7 +52,7 @@ fn write_moving<F: MissFile, W: Write>(machine: &Machine<F>, out: &mut W) -> Res
 }
 
 /// Writes each slice, and then the lines that aren't at rest.
-fn write_all<F: MissFile, W: fmt::Write>(machine: &Machine<F>, out: &mut W) -> fmt::Result
+fn write_all<W: fmt::Write>(machine: &Machine, out: &mut W) -> fmt::Result
     ensures { OnOk result (WritesInCalls W.write_str_gives out.old
         (items_moving machine.now.config machine.now.slices.items) out.new) }
 {

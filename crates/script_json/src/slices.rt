@@ -10,7 +10,7 @@ ghost use Rattle.slice_text.specs.Shown.{HaveCores};
 
 use address_map::{Checked, CoreId, LineAddr};
 use json_text::write_comma;
-use mshr_file::MissFile;
+use mshr_file::EitherFile;
 use slice_core::{SliceState, TagState};
 use std::fmt;
 use std::fmt::Write;
@@ -19,9 +19,9 @@ use std::fmt::Write;
 const TAGS: u16 = 64;
 
 /// Writes the slices of a machine, each with its replies that aren't handed out and its ring.
-pub(crate) fn write_slices<F: MissFile, W: Write>(
+pub(crate) fn write_slices<W: Write>(
     config: &Checked,
-    slices: &[SliceState<F>],
+    slices: &[SliceState<EitherFile>],
     out: &mut W,
 ) -> fmt::Result
     requires { HaveCores config.now.cores slices.now }
@@ -46,11 +46,11 @@ fn core_count(config: &Checked) -> u16
     config.cores() as u16
 }
 
-fn write_slice<F: MissFile, W: Write>(
+fn write_slice<W: Write>(
     cores: u16,
     lines: usize,
     number: usize,
-    state: &SliceState<F>,
+    state: &SliceState<EitherFile>,
     out: &mut W,
 ) -> fmt::Result
     requires cores { cores ≡ length state.now.view.caches }
@@ -72,11 +72,7 @@ fn write_number<W: Write>(number: usize, out: &mut W) -> fmt::Result
 }
 
 /// Writes the replies of all cores that aren't handed out.
-fn write_replies<F: MissFile, W: Write>(
-    state: &SliceState<F>,
-    cores: u16,
-    out: &mut W,
-) -> fmt::Result
+fn write_replies<W: Write>(state: &SliceState<EitherFile>, cores: u16, out: &mut W) -> fmt::Result
     requires cores { cores ≡ length state.now.view.caches }
     requires few { cores ≤ 64 }
     ensures { OnOk result (WritesInCalls W.write_str_gives out.old
@@ -104,11 +100,7 @@ fn write_reply<W: Write>(core: CoreId, tag: u8, number: u64, out: &mut W) -> fmt
 }
 
 /// Writes the lines of the ring, the front first.
-fn write_ring<F: MissFile, W: Write>(
-    state: &SliceState<F>,
-    lines: usize,
-    out: &mut W,
-) -> fmt::Result
+fn write_ring<W: Write>(state: &SliceState<EitherFile>, lines: usize, out: &mut W) -> fmt::Result
     ensures { OnOk result (WritesInCalls W.write_str_gives out.old (list_of_ring state.now lines) out.new) }
 {
     let mut is_first = true;

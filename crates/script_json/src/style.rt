@@ -9,7 +9,6 @@ use super::player::Lister;
 use super::writer::ValueWriter;
 use litmus_script::{Commands, Machine, Style, run_in_style};
 use litmus_text::TextFault;
-use mshr_file::MissFile;
 use script_explained::Stepper;
 use std::alloc::Global;
 use std::io::Write;
@@ -37,9 +36,9 @@ impl Style for Listing {
 
     ghost playing = { λ _. Listed };
 
-    fn play<F: MissFile, W: Write>(
+    fn play<W: Write>(
         &self,
-        machine: Machine<F>,
+        machine: Machine,
         commands: Commands<'_>,
         out: &mut W,
     ) -> Result<(), TextFault> {
@@ -49,9 +48,9 @@ impl Style for Listing {
 }
 
 /// Plays commands.
-fn play_listed<F: MissFile, W: Write>(
+fn play_listed<W: Write>(
     alloc: Global,
-    machine: Machine<F>,
+    machine: Machine,
     commands: Commands<'_>,
     out: &mut W,
 ) -> Result<(), TextFault>

@@ -22,7 +22,6 @@ use super::look::write_look;
 use super::told;
 use litmus_script::Machine;
 use litmus_text::{Statement, TextFault};
-use mshr_file::MissFile;
 use script_explained::{
     AccessStep, DeliveryStep, EvictionStep, Explaining, HandStep, Step, StepWriter, Unrest,
     WordStep,
@@ -45,9 +44,9 @@ impl StepWriter for ValueWriter {
 
     ghost writes_next = { λ _. ValuesNext };
 
-    fn write<F: MissFile, W: Write>(
+    fn write<W: Write>(
         &self,
-        machine: &Machine<F>,
+        machine: &Machine,
         statement: &Statement<'_>,
         step: &Step,
         out: &mut W,
@@ -63,9 +62,9 @@ impl StepWriter for ValueWriter {
         }
     }
 
-    fn write_next<F: MissFile, W: Write>(
+    fn write_next<W: Write>(
         &self,
-        _machine: &Machine<F>,
+        _machine: &Machine,
         _number: usize,
         delivery: DeliveryStep,
         out: &mut W,
@@ -76,9 +75,9 @@ impl StepWriter for ValueWriter {
 }
 
 impl ValueWriter {
-    fn write_access<F: MissFile, W: Write>(
+    fn write_access<W: Write>(
         &self,
-        machine: &Machine<F>,
+        machine: &Machine,
         statement: &Statement<'_>,
         access: AccessStep,
         out: &mut W,
@@ -95,9 +94,9 @@ impl ValueWriter {
         write_item(Answer::Access(access.issued), Some(told), out)
     }
 
-    fn write_eviction<F: MissFile, W: Write>(
+    fn write_eviction<W: Write>(
         &self,
-        machine: &Machine<F>,
+        machine: &Machine,
         statement: &Statement<'_>,
         eviction: EvictionStep,
         out: &mut W,
@@ -116,9 +115,9 @@ impl ValueWriter {
     }
 
     /// The line that explains a step.
-    fn explained<F: MissFile>(
+    fn explained(
         &self,
-        machine: &Machine<F>,
+        machine: &Machine,
         statement: &Statement<'_>,
         step: &Step,
     ) -> Result<Vec<u8>, TextFault>

@@ -11,7 +11,7 @@ use address_map::{CoreId, LineAddr};
 use json_text::write_comma;
 use litmus_script::{TextWriter, written};
 use litmus_text::TextFault;
-use mshr_file::MissFile;
+use mshr_file::EitherFile;
 use slice_core::{CoreLines, SliceState, TagState};
 use slice_json::{write_copy_in, write_lines};
 use std::alloc::{AllocError, Global};
@@ -22,7 +22,7 @@ use std::io::Write;
 const TAGS: u8 = 64;
 
 /// The line that left last for another, where an access can have made one leave.
-pub(crate) fn victim_of<F: MissFile>(state: &SliceState<F>, scope: Scope) -> Option<LineAddr>
+pub(crate) fn victim_of(state: &SliceState<EitherFile>, scope: Scope) -> Option<LineAddr>
     ensures { result ≡ victim_of state.now.view scope }
 {
     let core = scope.core?;
@@ -33,9 +33,9 @@ pub(crate) fn victim_of<F: MissFile>(state: &SliceState<F>, scope: Scope) -> Opt
 }
 
 /// Writes what the core of a scope has, or null where there is none.
-pub(crate) fn write_core_in<F: MissFile, W: Write>(
+pub(crate) fn write_core_in<W: Write>(
     alloc: Global,
-    state: &SliceState<F>,
+    state: &SliceState<EitherFile>,
     scope: Scope,
     out: &mut W,
 ) -> Result<(), TextFault>
@@ -68,9 +68,9 @@ pub(crate) fn write_whole<W: fmt::Write>(text: &str, out: &mut W) -> fmt::Result
     write!(out, "{text}")
 }
 
-fn write_core<F: MissFile, W: Write>(
+fn write_core<W: Write>(
     alloc: Global,
-    state: &SliceState<F>,
+    state: &SliceState<EitherFile>,
     core: CoreId,
     scope: Scope,
     out: &mut W,
@@ -94,9 +94,9 @@ fn write_core<F: MissFile, W: Write>(
 }
 
 /// The lines in the set of a line, in the order that the policy keeps.
-fn set_lines<F: MissFile>(
+fn set_lines(
     alloc: Global,
-    state: &SliceState<F>,
+    state: &SliceState<EitherFile>,
     core: CoreId,
     line: Option<LineAddr>,
 ) -> Result<Vec<LineAddr>, AllocError>
@@ -117,8 +117,8 @@ struct Lists<'a> {
     set: &'a [LineAddr],
 }
 
-fn write_with<F: MissFile, W: fmt::Write>(
-    state: &SliceState<F>,
+fn write_with<W: fmt::Write>(
+    state: &SliceState<EitherFile>,
     core: CoreId,
     line: Option<LineAddr>,
     victim: Option<LineAddr>,
@@ -153,8 +153,8 @@ fn write_begin<W: fmt::Write>(core: CoreId, out: &mut W) -> fmt::Result
 }
 
 /// Writes the replies to a core that aren't handed out, by their tags.
-fn write_replies<F: MissFile, W: fmt::Write>(
-    state: &SliceState<F>,
+fn write_replies<W: fmt::Write>(
+    state: &SliceState<EitherFile>,
     core: CoreId,
     out: &mut W,
 ) -> fmt::Result

@@ -32,7 +32,6 @@ use super::writer::PageWriter;
 use address_map::Checked;
 use litmus_script::{Commands, Machine, Script, TextWriter, written};
 use litmus_text::TextFault;
-use mshr_file::{ExplicitFile, InvertedFile, MissFile, MissKind};
 use protocol_tables::{write_cache_table, write_directory_table};
 use script_explained::play_steps;
 use slice_json::write_json;
@@ -92,40 +91,15 @@ fn page_of<W: Write>(
         misses,
         commands,
     } = script;
-    match misses {
-        MissKind::Explicit => {
-            page_on::<ExplicitFile, W>(alloc, input, config, commands, guess, out)
-        }
-        MissKind::Inverted => {
-            page_on::<InvertedFile, W>(alloc, input, config, commands, guess, out)
-        }
-    }
-}
-
-/// The page of commands on a new machine with miss registers of type `F`.
-fn page_on<F: MissFile, W: Write>(
-    alloc: Global,
-    input: &[u8],
-    config: Checked,
-    commands: Commands<'_>,
-    guess: bool,
-    out: &mut W,
-) -> Result<(), TextFault>
-    ensures page { OnOk result (IsPageOf guess input.now config (F.bound_by config) (commands_of commands.entry)
-        (W.contents out.old) (W.contents out.new)) }
-    ensures fault { IfErr result (λ fault. IsOfRun fault ⊎ ((start : List PartsView)
-        × IsNewMachine config (F.bound_by config) start
-        × PageStopsAt config (commands_of commands.entry) start fault)) }
-{
-    let machine: Machine<F> = Machine::build(alloc, config)?;
+    let machine = Machine::build(alloc, config, misses)?;
     begin(alloc, input, out)?;
     steps(alloc, machine, commands, guess, out)
 }
 
 /// The steps, and what follows them.
-fn steps<F: MissFile, W: Write>(
+fn steps<W: Write>(
     alloc: Global,
-    machine: Machine<F>,
+    machine: Machine,
     commands: Commands<'_>,
     guess: bool,
     out: &mut W,

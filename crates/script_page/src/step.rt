@@ -12,7 +12,7 @@ use super::core_part::{victim_of, write_core_in, write_null, write_whole};
 use super::scope::{Scope, scope_of};
 use litmus_script::{Issued, Machine, TextWriter, written};
 use litmus_text::{Command, TextFault};
-use mshr_file::MissFile;
+use mshr_file::EitherFile;
 use script_explained::Step;
 use slice_core::{Class, DeliveredNext, Plan, SliceState};
 use slice_json::{write_json, write_line_in, write_log};
@@ -32,9 +32,9 @@ pub(crate) struct PageStep<'a> {
 }
 
 /// Writes a step as an object of JSON, on a machine that has made it.
-pub(crate) fn write_step<F: MissFile, W: Write>(
+pub(crate) fn write_step<W: Write>(
     alloc: Global,
-    machine: &Machine<F>,
+    machine: &Machine,
     told: &PageStep<'_>,
     out: &mut W,
 ) -> Result<(), TextFault>
@@ -52,11 +52,7 @@ pub(crate) fn write_step<F: MissFile, W: Write>(
 }
 
 /// What the core has whose copy the command can have changed.
-fn core_text<F: MissFile>(
-    alloc: Global,
-    machine: &Machine<F>,
-    scope: Option<Scope>,
-) -> Result<Vec<u8>, TextFault>
+fn core_text(alloc: Global, machine: &Machine, scope: Option<Scope>) -> Result<Vec<u8>, TextFault>
     ensures text { IfOk result (λ text. text.items ≡ text_of_core_by scope machine.now.slices.items) }
     ensures fault { IfErr result IsOfRun }
 {
@@ -79,8 +75,8 @@ fn tell<W: Write>(text: &[u8], out: &mut W) -> Result<(), TextFault>
 }
 
 /// Writes all of a step but what the core has.
-fn begin<F: MissFile, W: Write>(
-    machine: &Machine<F>,
+fn begin<W: Write>(
+    machine: &Machine,
     told: &PageStep<'_>,
     scope: Option<Scope>,
     out: &mut W,
@@ -94,8 +90,8 @@ fn begin<F: MissFile, W: Write>(
     written(write_front(machine, told, scope, &mut answers))
 }
 
-fn write_front<F: MissFile, W: fmt::Write>(
-    machine: &Machine<F>,
+fn write_front<W: fmt::Write>(
+    machine: &Machine,
     told: &PageStep<'_>,
     scope: Option<Scope>,
     out: &mut W,
@@ -181,8 +177,8 @@ fn write_call<W: fmt::Write>(command: Command, planned: Option<Planned>, out: &m
 }
 
 /// Writes the lines that the command can have changed, and what it performed.
-fn write_changes<F: MissFile, W: fmt::Write>(
-    machine: &Machine<F>,
+fn write_changes<W: fmt::Write>(
+    machine: &Machine,
     scope: Option<Scope>,
     step: &Step,
     out: &mut W,
@@ -208,8 +204,8 @@ fn write_nothing<W: fmt::Write>(out: &mut W) -> fmt::Result
     )
 }
 
-fn write_lines_of<F: MissFile, W: fmt::Write>(
-    state: &SliceState<F>,
+fn write_lines_of<W: fmt::Write>(
+    state: &SliceState<EitherFile>,
     scope: Scope,
     step: &Step,
     out: &mut W,
@@ -236,9 +232,9 @@ fn write_next<W: fmt::Write>(next: DeliveredNext, out: &mut W) -> fmt::Result
 }
 
 /// Writes what the core of a scope has.
-fn tell_core<F: MissFile, W: Write>(
+fn tell_core<W: Write>(
     alloc: Global,
-    machine: &Machine<F>,
+    machine: &Machine,
     scope: Option<Scope>,
     out: &mut W,
 ) -> Result<(), TextFault>

@@ -10,7 +10,6 @@ ghost use Rattle.script_text.specs.Line.{text_of_parts};
 use super::step::{PageStep, write_step};
 use litmus_script::Machine;
 use litmus_text::{Statement, TextFault};
-use mshr_file::MissFile;
 use script_explained::{DeliveryStep, Explaining, Step, StepWriter, delivery_text};
 use std::alloc::Global;
 use std::io::Write;
@@ -28,9 +27,9 @@ impl StepWriter for PageWriter {
 
     ghost writes_next = { λ _. PageWritingNext };
 
-    fn write<F: MissFile, W: Write>(
+    fn write<W: Write>(
         &self,
-        machine: &Machine<F>,
+        machine: &Machine,
         statement: &Statement<'_>,
         step: &Step,
         out: &mut W,
@@ -45,9 +44,9 @@ impl StepWriter for PageWriter {
         write_step(self.alloc, machine, &told, out)
     }
 
-    fn write_next<F: MissFile, W: Write>(
+    fn write_next<W: Write>(
         &self,
-        machine: &Machine<F>,
+        machine: &Machine,
         number: usize,
         delivery: DeliveryStep,
         out: &mut W,
@@ -67,9 +66,9 @@ impl StepWriter for PageWriter {
 
 impl PageWriter {
     /// The answer of a step, with what happened.
-    fn told<F: MissFile>(
+    fn told(
         &self,
-        machine: &Machine<F>,
+        machine: &Machine,
         statement: &Statement<'_>,
         step: &Step,
     ) -> Result<Vec<u8>, TextFault>
@@ -96,9 +95,9 @@ impl PageWriter {
     }
 
     /// .. of a delivery that a pump made.
-    fn told_next<F: MissFile>(
+    fn told_next(
         &self,
-        machine: &Machine<F>,
+        machine: &Machine,
         number: usize,
         delivery: &DeliveryStep,
     ) -> Result<Vec<u8>, TextFault>

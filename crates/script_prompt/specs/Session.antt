@@ -12,8 +12,7 @@ use Rattle.litmus_text.specs.declared.command.Command.{Command}
 use Rattle.mshr_file.specs.Miss.{Bound}
 use Rattle.script_explained.specs.Explains.{Explainingly}
 use Rattle.slice_core_plan.specs.Calls.{PartsView}
-use Rattle.script_prompt.specs.declared.kinds.AnySession.{AnySession}
-use Rattle.script_prompt.specs.declared.kinds.AnySession.TheVariants as any_sessions
+use Rattle.script_prompt.specs.declared.session.Session.{Session}
 
 -- The words write this command. It is done, its answer is printed with what happened, and the script goes on with the
 -- line.
@@ -58,22 +57,19 @@ pub record IsAfter (script : List ℕ) (config : Config) (slices : List PartsVie
   pub played : IsPlayedTo config bound commands slices before after
 
 -- what a session has
-abbrev pub config_of : AnySession → Config
-config_of (any_sessions.Explicit session) = session.player.machine.config
-config_of (any_sessions.Inverted session) = session.player.machine.config
+abbrev pub config_of : Session → Config
+config_of session = session.player.machine.config
 
-abbrev pub slices_of : AnySession → List PartsView
-slices_of (any_sessions.Explicit session) = session.player.machine.slices.items
-slices_of (any_sessions.Inverted session) = session.player.machine.slices.items
+abbrev pub slices_of : Session → List PartsView
+slices_of session = session.player.machine.slices.items
 
-abbrev pub script_of : AnySession → List ℕ
-script_of (any_sessions.Explicit session) = session.script.items
-script_of (any_sessions.Inverted session) = session.script.items
+abbrev pub script_of : Session → List ℕ
+script_of session = session.script.items
 
 -- ---- a script that is played anew
 
 -- the session has this script, and its machine is the one that it leaves
-pub record IsOpened (script : List ℕ) (session : AnySession) : Type 0 where
+pub record IsOpened (script : List ℕ) (session : Session) : Type 0 where
   pub kept : script_of session ≡ script
   pub before : Option (List ℕ)
   pub after : Option (List ℕ)
@@ -94,7 +90,7 @@ HasNothing (Some part) script = length script ≤ part
 
 -- The script is played anew without what stands from this byte on, or where none is named without some end. Where
 -- nothing stands there nothing has changed.
-abbrev pub IsTakenBack : Option ℕ → AnySession → AnySession → Type 0
+abbrev pub IsTakenBack : Option ℕ → Session → Session → Type 0
 IsTakenBack part old new =
     (HasNothing part (script_of old) × (new ≡ old))
     ⊎ ((first : ℕ) × (unwrap_or part first ≡ first) × (first < length (script_of old))
@@ -106,10 +102,10 @@ IsWithoutLast parts None left = parts ≡ []
 IsWithoutLast parts (Some part) left = parts ≡ left ++ part ∷ []
 
 -- .. and the script is played anew without it
-abbrev pub IsUndone : List ℕ → List ℕ → AnySession → AnySession → Type 0
+abbrev pub IsUndone : List ℕ → List ℕ → Session → Session → Type 0
 IsUndone parts left old new =
     (part : Option ℕ) × IsWithoutLast parts part left × IsTakenBack part old new
 
 -- nothing has changed, or the script with one line more is played anew
-abbrev pub IsMadeWith : List ℕ → AnySession → AnySession → Type 0
+abbrev pub IsMadeWith : List ℕ → Session → Session → Type 0
 IsMadeWith line old new = (new ≡ old) ⊎ IsOpened (with_end (with_end (script_of old) ++ line)) new

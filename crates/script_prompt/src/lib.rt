@@ -16,7 +16,6 @@ pub use session::Session;
 mod asked;
 mod help;
 mod hint;
-mod kinds;
 mod machine;
 mod own;
 mod prompt;

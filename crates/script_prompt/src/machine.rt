@@ -8,19 +8,14 @@ ghost use Rattle.script_prompt.specs.Tag.{IsLowestFree, is_busy};
 
 use address_map::{CoreId, Op, Request, SliceId, WordAddr};
 use litmus_script::Machine;
-use mshr_file::MissFile;
+use mshr_file::EitherFile;
 use slice_core::{Class, Decision, DeliveredNext, Refused, SliceState};
 
 /// How many tags a core has in a slice.
 const TAGS: u8 = 64;
 
 /// The lowest tag that the core has free in the slice of a word.
-pub(crate) fn free_tag<F: MissFile>(
-    machine: &Machine<F>,
-    core: CoreId,
-    op: Op,
-    word: WordAddr,
-) -> Option<u8>
+pub(crate) fn free_tag(machine: &Machine, core: CoreId, op: Op, word: WordAddr) -> Option<u8>
     requires { HasCore machine.now.config core }
     ensures { HasAt machine.now.slices.items ((line_of word).0 % machine.now.config.slices)
         (λ state. IsLowestFree state.view core op word result) }
@@ -29,12 +24,7 @@ pub(crate) fn free_tag<F: MissFile>(
     free_tag_in(&machine.slices[slice], core, op, word)
 }
 
-fn free_tag_in<F: MissFile>(
-    state: &SliceState<F>,
-    core: CoreId,
-    op: Op,
-    word: WordAddr,
-) -> Option<u8>
+fn free_tag_in(state: &SliceState<EitherFile>, core: CoreId, op: Op, word: WordAddr) -> Option<u8>
     requires { core.0 < length state.now.view.caches }
     ensures { IsLowestFree state.now.view core op word result }
 {
@@ -55,7 +45,7 @@ const fn is_busy(decision: Decision) -> bool
 }
 
 /// The next delivery of the slice, or else that of the first slice that has one.
-pub(crate) fn next<F: MissFile>(machine: &Machine<F>, slice: Option<SliceId>) -> DeliveredNext
+pub(crate) fn next(machine: &Machine, slice: Option<SliceId>) -> DeliveredNext
     ensures { result ≡ next_of machine.now.slices.items slice }
 {
     match slice {
@@ -67,7 +57,7 @@ pub(crate) fn next<F: MissFile>(machine: &Machine<F>, slice: Option<SliceId>) ->
     }
 }
 
-fn next_of_all<F: MissFile>(slices: &[SliceState<F>]) -> DeliveredNext
+fn next_of_all(slices: &[SliceState<EitherFile>]) -> DeliveredNext
     ensures { result ≡ next_of_all slices.now }
 {
     let mut found = DeliveredNext::Nothing;

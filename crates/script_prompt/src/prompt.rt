@@ -5,9 +5,9 @@ ghost use Rattle.script_prompt.specs.Session.{IsMadeWith, IsTakenBack, IsUndone,
 use super::asked::Asked;
 use super::help::HELP;
 use super::hint::hint_of;
-use super::kinds::AnySession;
 use super::own::Own;
 use super::saver::Saver;
+use super::session::Session;
 use litmus_script::{TextWriter, written};
 use litmus_text::{Statement, Statements, TextFault};
 use std::alloc::Global;
@@ -27,7 +27,7 @@ pub fn run_prompt<R: BufRead, W: Write, S: Saver>(
     ensures status { IfOk result (λ status. status ≡ 0) }
 {
     let script = with_end(alloc, script)?;
-    let session = AnySession::open(alloc, script, out)?;
+    let session = Session::open(alloc, script, out)?;
     let mut prompt = Prompt {
         alloc,
         session,
@@ -89,7 +89,7 @@ fn read_line<R: BufRead>(alloc: Global, input: &mut R) -> Result<Vec<u8>, TextFa
 #[derive(Drop)]
 struct Prompt {
     alloc: Global,
-    session: AnySession,
+    session: Session,
     parts: Vec<usize>,
 }
 
@@ -167,7 +167,7 @@ impl Prompt {
         let mut script = with_end(self.alloc, self.session.script())?;
         script.extend_from_slice(line)?;
         let script = with_end(self.alloc, &script)?;
-        match AnySession::open(self.alloc, script, &mut io::sink()) {
+        match Session::open(self.alloc, script, &mut io::sink()) {
             Ok(session) => {
                 self.session = session;
                 Ok(())
@@ -206,7 +206,7 @@ impl Prompt {
             written(answers.write_bytes(line))?;
         }
         let left = with_end(self.alloc, left)?;
-        self.session = AnySession::open(self.alloc, left, &mut io::sink())?;
+        self.session = Session::open(self.alloc, left, &mut io::sink())?;
         Ok(())
     }
 

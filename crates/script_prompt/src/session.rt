@@ -1,34 +1,79 @@
 //! A machine, and the script that it has played.
-ghost use Rattle.std.specs.Prelude.{◌≡◌, ◌++◌, ◌<◌, IfErr, IfOk, OnOk, codes};
+ghost use Rattle.std.specs.Prelude.{◌≡◌, ◌++◌, ◌<◌, ℕ, List, Option, [], IfErr, IfOk, OnOk, codes};
+ghost use Rattle.std.specs.Str.Lines.{lines};
 ghost use Rattle.litmus_script.specs.Fault.{IsNotPlayed};
-ghost use Rattle.litmus_text.specs.Command.{IsFaultOfCommand};
-ghost use Rattle.litmus_script.specs.Script.{said_by};
-ghost use Rattle.litmus_text.specs.Command.{HasCore};
+ghost use Rattle.litmus_script.specs.Script.{commands_of, said_by};
+ghost use Rattle.litmus_text.specs.Command.{HasCore, IsFaultOfCommand};
+ghost use Rattle.litmus_text.specs.Statement.{statements_from};
+ghost use Rattle.mshr_file.specs.Miss.{bound_of};
 ghost use Rattle.script_prompt.specs.Asked.{Asks};
-ghost use Rattle.script_prompt.specs.Session.{IsContinued, PlaysLine};
+ghost use Rattle.script_prompt.specs.Session.{IsAfter, IsContinued, IsPlayedTo, PlaysLine};
+ghost use Rattle.script_prompt.specs.Session.{config_of, script_of, slices_of};
 
 use super::asked::{Asked, read_asked};
 use super::machine;
 use super::own::Own;
 use address_map::{Checked, CoreId, Op, Request, SliceId, WordAddr};
-use litmus_script::{Player, TextWriter, written};
-use litmus_text::{Command, Statement, Statements, TextFault, parse_command};
-use mshr_file::MissFile;
+use litmus_script::{Commands, Echo, Machine, Player, Script, TextWriter, written};
+use litmus_text::{Command, Settings, Statement, Statements, TextFault, parse_command};
+use mshr_file::MissKind;
 use script_explained::{Explaining, Stepper};
 use script_text::write_command;
 use slice_core::DeliveredNext;
+use std::alloc::Global;
 use std::fmt::Write as _;
 use std::io::Write;
 
 /// A machine, and the script so far: the lines that it was configured by and has played.
 #[derive(Drop)]
-pub struct Session<F: MissFile> {
-    pub player: Stepper<F, Explaining>,
+pub struct Session {
+    pub player: Stepper<Explaining>,
     /// Each line with its end.
     pub script: Vec<u8>,
 }
 
-impl<F: MissFile> Session<F> {
+impl Session {
+    /// Plays a script on a new machine, each command's line before its answer with what happened.
+    pub fn open<W: Write>(alloc: Global, script: Vec<u8>, out: &mut W) -> Result<Self, TextFault>
+        ensures script { IfOk result (λ session. script_of session ≡ script.items) }
+        ensures after { IfOk result (λ session. IsAfter script.items (config_of session) (slices_of session)
+            (W.contents out.old) (W.contents out.new)) }
+    {
+        match Script::read(alloc, &script)? {
+            None => Session::open_default(alloc, script),
+            Some(
+                Script {
+                    config,
+                    misses,
+                    commands,
+                },
+            ) => {
+                let player = play_on(alloc, config, misses, commands, out)?;
+                Ok(Session { player, script })
+            }
+        }
+    }
+
+    /// The machine of a script that says nothing.
+    fn open_default(alloc: Global, script: Vec<u8>) -> Result<Self, TextFault>
+        ensures script { IfOk result (λ session. script_of session ≡ script.items) }
+        ensures after { IfOk result (λ session. statements_from 0 (lines script.items) ≡ [] → (before : Option (List ℕ))
+            → IsAfter script.items (config_of session) (slices_of session) before before) }
+    {
+        let Settings { config, misses } = Settings::new(alloc);
+        let config = config.check().map_err(TextFault::Config)?;
+        let machine = Machine::build(alloc, config, misses)?;
+        let player = Stepper::new(alloc, machine, Explaining { alloc });
+        Ok(Session { player, script })
+    }
+
+    /// The script so far.
+    pub fn script(&self) -> &[u8]
+        ensures { result.now ≡ script_of self.now }
+    {
+        self.script.as_slice()
+    }
+
     pub fn config(&self) -> &Checked
         ensures { result.now ≡ self.now.player.machine.config }
     {
@@ -229,4 +274,23 @@ impl<F: MissFile> Session<F> {
         }
         Ok(())
     }
+}
+
+/// Plays commands on a new machine, each after its own line, and with what happened after its answer.
+fn play_on<W: Write>(
+    alloc: Global,
+    config: Checked,
+    misses: MissKind,
+    commands: Commands<'_>,
+    out: &mut W,
+) -> Result<Stepper<Explaining>, TextFault>
+    ensures config { IfOk result (λ player. player.machine.config ≡ config) }
+    ensures played { IfOk result (λ player. IsPlayedTo config (bound_of misses config) (commands_of commands.entry)
+        player.machine.slices.items (W.contents out.old) (W.contents out.new)) }
+{
+    let machine = Machine::build(alloc, config, misses)?;
+    let player = Stepper::new(alloc, machine, Explaining { alloc });
+    let mut echo = Echo { player };
+    commands.play(&mut echo, out)?;
+    Ok(echo.player)
 }

@@ -8,7 +8,6 @@ ghost use Rattle.script_test.specs.Answers.{Answering, AreAnswered, AreAnswers};
 use address_map::Checked;
 use litmus_script::{Commands, Machine, Player, Script};
 use litmus_text::{Command, Statement, TextFault};
-use mshr_file::{ExplicitFile, InvertedFile, MissFile, MissKind};
 use std::alloc::Global;
 use std::io::Write;
 
@@ -37,24 +36,7 @@ fn texts_of_read(alloc: Global, script: Script<'_>) -> Result<Vec<Vec<u8>>, Text
         misses,
         commands,
     } = script;
-    match misses {
-        MissKind::Explicit => texts_on::<ExplicitFile>(alloc, config, commands),
-        MissKind::Inverted => texts_on::<InvertedFile>(alloc, config, commands),
-    }
-}
-
-/// Plays commands on a new machine with miss registers of type `F`.
-fn texts_on<F: MissFile>(
-    alloc: Global,
-    config: Checked,
-    commands: Commands<'_>,
-) -> Result<Vec<Vec<u8>>, TextFault>
-    ensures answers { IfOk result (λ texts. AreAnswered config (F.bound_by config) (commands_of commands.entry)
-        (map (λ t. t.items) texts.items)) }
-    ensures fault { IfErr result (λ fault. (after : Option (List ℕ)) × IsPlayedUpTo Answering config (F.bound_by config)
-        (commands_of commands.entry) (Some []) after fault) }
-{
-    let machine: Machine<F> = Machine::build(alloc, config)?;
+    let machine = Machine::build(alloc, config, misses)?;
     let mut recorder = Recorder {
         machine,
         texts: Vec::new(alloc),
@@ -68,13 +50,13 @@ fn texts_on<F: MissFile>(
 
 /// A player that writes nothing, and keeps each answer.
 #[derive(Drop)]
-struct Recorder<F: MissFile> {
-    machine: Machine<F>,
+struct Recorder {
+    machine: Machine,
     texts: Vec<Vec<u8>>,
     alloc: Global,
 }
 
-impl<F: MissFile> Player for Recorder<F> {
+impl Player for Recorder {
     ghost use Rattle.std.specs.Prelude.{◌≡◌, ℕ, List, [], ◌∷◌, ◌++◌, Some, map};
     ghost use Rattle.litmus_script.specs.Prints.{IsPrinted};
 

@@ -13,7 +13,7 @@ use super::signal::{Use, UseCode};
 use address_map::{Checked, CoreId};
 use litmus_script::{Machine, TextWriter, written};
 use litmus_text::TextFault;
-use mshr_file::MissFile;
+use mshr_file::EitherFile;
 use slice_core::{CoreLines, SliceState, TagState};
 use std::alloc::{AllocError, Global};
 use std::fmt;
@@ -31,9 +31,9 @@ pub(crate) struct InUse {
 }
 
 /// Writes what each core has in use of each slice.
-pub(crate) fn write_uses<F: MissFile, W: Write>(
+pub(crate) fn write_uses<W: Write>(
     alloc: Global,
-    machine: &Machine<F>,
+    machine: &Machine,
     out: &mut W,
 ) -> Result<(), TextFault>
     ensures written { OnOk result (Appends (W.contents out.old) (W.contents out.new)
@@ -50,10 +50,10 @@ fn core_count(config: &Checked) -> u8
     config.cores() as u8
 }
 
-fn write_slices<F: MissFile, W: Write>(
+fn write_slices<W: Write>(
     alloc: Global,
     cores: u8,
-    slices: &[SliceState<F>],
+    slices: &[SliceState<EitherFile>],
     out: &mut W,
 ) -> Result<(), TextFault>
     requires { All (λ state. length state.view.caches ≡ cores) slices.now }
@@ -67,11 +67,11 @@ fn write_slices<F: MissFile, W: Write>(
     Ok(())
 }
 
-fn write_slice<F: MissFile, W: Write>(
+fn write_slice<W: Write>(
     alloc: Global,
     cores: u8,
     slice: usize,
-    state: &SliceState<F>,
+    state: &SliceState<EitherFile>,
     out: &mut W,
 ) -> Result<(), TextFault>
     requires { cores ≡ length state.now.view.caches }
@@ -85,11 +85,11 @@ fn write_slice<F: MissFile, W: Write>(
     Ok(())
 }
 
-fn write_core<F: MissFile, W: Write>(
+fn write_core<W: Write>(
     alloc: Global,
     slice: usize,
     core: CoreId,
-    state: &SliceState<F>,
+    state: &SliceState<EitherFile>,
     out: &mut W,
 ) -> Result<(), TextFault>
     requires { core.0 < length state.now.view.caches }
@@ -102,11 +102,7 @@ fn write_core<F: MissFile, W: Write>(
     written(write_use(slice, core, used, &mut answers))
 }
 
-fn in_use<F: MissFile>(
-    alloc: Global,
-    state: &SliceState<F>,
-    core: CoreId,
-) -> Result<InUse, AllocError>
+fn in_use(alloc: Global, state: &SliceState<EitherFile>, core: CoreId) -> Result<InUse, AllocError>
     requires { core.0 < length state.now.view.caches }
     ensures { IfOk result (λ used. used ≡ in_use (cache_at state.now.view core)) }
 {
@@ -120,7 +116,7 @@ fn in_use<F: MissFile>(
 }
 
 /// How many accesses of a core wait.
-fn target_count<F: MissFile>(state: &SliceState<F>, core: CoreId) -> u8
+fn target_count(state: &SliceState<EitherFile>, core: CoreId) -> u8
     requires { core.0 < length state.now.view.caches }
     ensures { result ≡ target_count (cache_at state.now.view core) }
 {

@@ -18,7 +18,6 @@ use super::values::write_lines;
 use address_map::{Checked, LineAddr};
 use litmus_script::{Deliverer, Machine, Player, TextWriter, pump_slices, written};
 use litmus_text::{Command, Statement, TextFault};
-use mshr_file::MissFile;
 use script_explained::delivery_text;
 use slice_core::DeliveredNext;
 use std::alloc::Global;
@@ -28,8 +27,8 @@ use std::io::Write;
 /// A player that writes, after each command and each delivery of a pump, what it changed of what each core has in use, and
 /// of what the slices have of each line named so far.
 #[derive(Drop)]
-pub(crate) struct Waved<F: MissFile> {
-    pub(crate) machine: Machine<F>,
+pub(crate) struct Waved {
+    pub(crate) machine: Machine,
     /// The lines that the commands named so far, each once.
     pub(crate) named: Vec<LineAddr>,
     /// How many commands were played and deliveries of pumps made, modulo 2^64.
@@ -41,7 +40,7 @@ pub(crate) struct Waved<F: MissFile> {
     alloc: Global,
 }
 
-impl<F: MissFile> Player for Waved<F> {
+impl Player for Waved {
     ghost use Rattle.std.specs.Prelude.{◌≡◌};
     ghost use Rattle.script_waves.specs.Waves.{Shown, Ticks};
 
@@ -81,7 +80,7 @@ impl<F: MissFile> Player for Waved<F> {
 }
 
 /// Each delivery that a pump makes takes a unit of time.
-impl<F: MissFile> Deliverer for Waved<F> {
+impl Deliverer for Waved {
     ghost use Rattle.std.specs.Prelude.{◌≡◌};
     ghost use Rattle.script_waves.specs.Waves.{IsNextTick, Shown};
 
@@ -118,8 +117,8 @@ impl<F: MissFile> Deliverer for Waved<F> {
     }
 }
 
-impl<F: MissFile> Waved<F> {
-    pub(crate) fn new(alloc: Global, machine: Machine<F>) -> Self
+impl Waved {
+    pub(crate) fn new(alloc: Global, machine: Machine) -> Self
         ensures machine { result.machine ≡ machine }
         ensures named { result.named.items ≡ [] }
         ensures played { result.played ≡ 0 }

@@ -10,14 +10,14 @@ use super::channel::write_names;
 use super::signal::{Code, Signal};
 use address_map::LineAddr;
 use litmus_script::Machine;
-use mshr_file::MissFile;
+use mshr_file::EitherFile;
 use slice_core::{CopyState, DirState, LineWaiting, SliceState};
 use std::fmt;
 use std::fmt::Write;
 
 /// Writes what a machine's slices have of these lines.
-pub(crate) fn write_lines<F: MissFile, W: Write>(
-    machine: &Machine<F>,
+pub(crate) fn write_lines<W: Write>(
+    machine: &Machine,
     lines: &[LineAddr],
     out: &mut W,
 ) -> fmt::Result
@@ -31,7 +31,7 @@ pub(crate) fn write_lines<F: MissFile, W: Write>(
 }
 
 /// Writes what its slice has of a line.
-fn write_in<F: MissFile, W: Write>(machine: &Machine<F>, line: LineAddr, out: &mut W) -> fmt::Result
+fn write_in<W: Write>(machine: &Machine, line: LineAddr, out: &mut W) -> fmt::Result
     ensures { OnOk result (WritesInCalls W.write_str_gives out.old
         (text_in (slice_get machine.now.slices.items (line.0 % machine.now.config.slices)) line) out.new) }
 {
@@ -40,11 +40,7 @@ fn write_in<F: MissFile, W: Write>(machine: &Machine<F>, line: LineAddr, out: &m
 }
 
 /// Writes what a slice has of a line, if it is one of its own.
-fn write_at<F: MissFile, W: Write>(
-    state: &SliceState<F>,
-    line: LineAddr,
-    out: &mut W,
-) -> fmt::Result
+fn write_at<W: Write>(state: &SliceState<EitherFile>, line: LineAddr, out: &mut W) -> fmt::Result
     ensures { OnOk result (WritesInCalls W.write_str_gives out.old (text_at state.now.view line) out.new) }
 {
     let Some(view) = state.line_view(line) else {
@@ -56,11 +52,7 @@ fn write_at<F: MissFile, W: Write>(
 }
 
 /// Writes what waits for a line, if it is one of the slice's own.
-fn write_mail<F: MissFile, W: Write>(
-    state: &SliceState<F>,
-    line: LineAddr,
-    out: &mut W,
-) -> fmt::Result
+fn write_mail<W: Write>(state: &SliceState<EitherFile>, line: LineAddr, out: &mut W) -> fmt::Result
     ensures { OnOk result (WritesInCalls W.write_str_gives out.old
         (text_of_mail state.now.view line (local_at state.now.view.lines line.0)) out.new) }
 {
@@ -72,7 +64,7 @@ fn write_mail<F: MissFile, W: Write>(
 }
 
 /// How many channels of a line have a message.
-fn total_at<F: MissFile>(state: &SliceState<F>, line: LineAddr) -> u64
+fn total_at(state: &SliceState<EitherFile>, line: LineAddr) -> u64
     ensures { result ≡ total_of (waiting_of state.now.view (local_at state.now.view.lines line.0)) }
 {
     match waiting_at(state, line) {
@@ -82,7 +74,7 @@ fn total_at<F: MissFile>(state: &SliceState<F>, line: LineAddr) -> u64
 }
 
 /// The channels of a line that have a message; none for a line that isn't the slice's.
-fn waiting_at<F: MissFile>(state: &SliceState<F>, line: LineAddr) -> Option<LineWaiting<'_>>
+fn waiting_at(state: &SliceState<EitherFile>, line: LineAddr) -> Option<LineWaiting<'_>>
     ensures none { IfNone result (waiting_of state.now.view (local_at state.now.view.lines line.0) ≡ []) }
     ensures some { IfSome result
         (λ left. left ≡ waiting_of state.now.view (local_at state.now.view.lines line.0)) }

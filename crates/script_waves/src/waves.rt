@@ -19,7 +19,6 @@ use super::player::Waved;
 use address_map::{Checked, Config, LineAddr};
 use litmus_script::{Commands, Machine, Script, TextWriter, written};
 use litmus_text::TextFault;
-use mshr_file::{ExplicitFile, InvertedFile, MissFile, MissKind};
 use stats_report::write_text;
 use std::alloc::Global;
 use std::io::Write;
@@ -63,32 +62,13 @@ fn waves_of<W: Write>(alloc: Global, script: Script<'_>, out: &mut W) -> Result<
         misses,
         commands,
     } = script;
-    match misses {
-        MissKind::Explicit => waves_on::<ExplicitFile, W>(alloc, config, commands, out),
-        MissKind::Inverted => waves_on::<InvertedFile, W>(alloc, config, commands, out),
-    }
-}
-
-/// The waves of commands on a new machine with miss registers of type `F`.
-fn waves_on<F: MissFile, W: Write>(
-    alloc: Global,
-    config: Checked,
-    commands: Commands<'_>,
-    out: &mut W,
-) -> Result<(), TextFault>
-    ensures waves { OnOk result (IsWavesOf config (F.bound_by config) (commands_of commands.entry)
-        (W.contents out.old) (W.contents out.new)) }
-    ensures fault { IfErr result (λ fault. IsOfRun fault ⊎ ((start : List PartsView)
-        × IsNewMachine config (F.bound_by config) start
-        × WavesStopAt config (commands_of commands.entry) start fault)) }
-{
-    let machine: Machine<F> = Machine::build(alloc, config)?;
+    let machine = Machine::build(alloc, config, misses)?;
     waves(alloc, machine, commands, out)
 }
 
-fn waves<F: MissFile, W: Write>(
+fn waves<W: Write>(
     alloc: Global,
-    machine: Machine<F>,
+    machine: Machine,
     commands: Commands<'_>,
     out: &mut W,
 ) -> Result<(), TextFault>
@@ -108,11 +88,7 @@ fn waves<F: MissFile, W: Write>(
 }
 
 /// Writes the signals of the lines that were named, then what the commands made of them, and the end.
-fn write_all<F: MissFile, W: Write>(
-    player: &Waved<F>,
-    ticks: &[u8],
-    out: &mut W,
-) -> Result<(), TextFault>
+fn write_all<W: Write>(player: &Waved, ticks: &[u8], out: &mut W) -> Result<(), TextFault>
     ensures written { OnOk result (IsWritten player.now.machine.config.cores player.now.machine.config.slices
         player.now.named.items ticks.now (next player.now.played) (W.contents out.old) (W.contents out.new)) }
     ensures fault { IfErr result IsOfRun }

@@ -9,17 +9,14 @@ use Rattle.litmus_text.specs.declared.fault.TextFault.TheVariants as text_faults
 use Rattle.litmus_text.specs.declared.settings.Settings.{Settings}
 use Rattle.slice_core_plan.specs.Calls.{PartsView}
 use Rattle.simulator.specs.declared.simulator.Simulator.{Simulator}
-use Rattle.simulator.specs.declared.simulator.Simulator.TheVariants as simulators
 
 -- the shape of the machine
 abbrev pub config_of : Simulator → Config
-config_of (simulators.Explicit machine) = machine.config
-config_of (simulators.Inverted machine) = machine.config
+config_of simulator = simulator.machine.config
 
 -- what each slice has, in order
 abbrev pub slices_of : Simulator → List PartsView
-slices_of (simulators.Explicit machine) = machine.slices.items
-slices_of (simulators.Inverted machine) = machine.slices.items
+slices_of simulator = simulator.machine.slices.items
 
 -- a new machine of these settings, which are allowed
 pub record IsNewSimulator (settings : Settings) (simulator : Simulator) : Type 0 where
@@ -28,11 +25,7 @@ pub record IsNewSimulator (settings : Settings) (simulator : Simulator) : Type 0
 
 -- the same machine once more
 abbrev pub IsCopyOf : Simulator → Simulator → Type 0
-IsCopyOf (simulators.Explicit machine) (simulators.Explicit copy) =
-    (copy.config ≡ machine.config) × (copy.slices.items ≡ machine.slices.items)
-IsCopyOf (simulators.Inverted machine) (simulators.Inverted copy) =
-    (copy.config ≡ machine.config) × (copy.slices.items ≡ machine.slices.items)
-IsCopyOf simulator copy = ⊥
+IsCopyOf simulator copy = (config_of copy ≡ config_of simulator) × (slices_of copy ≡ slices_of simulator)
 
 -- why there is none: a field isn't allowed, or an allocation failed
 abbrev pub IsNotBuilt : Config → TextFault → Type 0

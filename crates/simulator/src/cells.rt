@@ -5,15 +5,15 @@ ghost use Rattle.script_explained.specs.Look.{copy_at, entry_of};
 ghost use Rattle.simulator.specs.Cells.{cell_of_delivery, cell_of_eviction, cell_of_issue, outcome_with_room};
 
 use address_map::{CoreId, LineAddr, Request};
-use mshr_file::MissFile;
+use mshr_file::EitherFile;
 use protocol_coverage::{Cell, Outcome, TableEvent, TableState};
 use script_coverage::{cell_at, outcome_of_decision, outcome_of_plan};
 use slice_core::{CopyState, DirState, Pick, SliceState};
 use step_text::{Case, Event, Who};
 
 /// .. that an access would meet.
-pub(crate) fn of_issue<F: MissFile>(
-    state: &SliceState<F>,
+pub(crate) fn of_issue(
+    state: &SliceState<EitherFile>,
     core: CoreId,
     request: Request,
 ) -> Option<Cell>
@@ -31,7 +31,7 @@ pub(crate) fn of_issue<F: MissFile>(
 }
 
 /// .. that an eviction would, where the write-back buffer has room for it.
-pub(crate) fn of_eviction<F: MissFile>(state: &SliceState<F>, core: CoreId, line: LineAddr) -> Cell
+pub(crate) fn of_eviction(state: &SliceState<EitherFile>, core: CoreId, line: LineAddr) -> Cell
     ensures { result ≡ cell_of_eviction state.now.view core line }
 {
     let copy = copy(state, line, core);
@@ -54,7 +54,7 @@ const fn outcome_with_room(copy: CopyState) -> Outcome
 }
 
 /// .. that the message in front of a channel would.
-pub(crate) fn of_delivery<F: MissFile>(state: &SliceState<F>, pick: Pick) -> Option<Cell>
+pub(crate) fn of_delivery(state: &SliceState<EitherFile>, pick: Pick) -> Option<Cell>
     ensures { result ≡ cell_of_delivery state.now.view pick }
 {
     let case = case(state, pick)?;
@@ -62,7 +62,7 @@ pub(crate) fn of_delivery<F: MissFile>(state: &SliceState<F>, pick: Pick) -> Opt
 }
 
 /// The case that the message in front of a channel meets.
-fn case<F: MissFile>(state: &SliceState<F>, pick: Pick) -> Option<Case>
+fn case(state: &SliceState<EitherFile>, pick: Pick) -> Option<Case>
     ensures { result ≡ case_at 0 state.now.view pick }
 {
     let message = state.front(pick)?;
@@ -73,7 +73,7 @@ fn case<F: MissFile>(state: &SliceState<F>, pick: Pick) -> Option<Case>
 }
 
 /// Who takes the messages of a channel.
-fn who<F: MissFile>(state: &SliceState<F>, pick: Pick) -> Who
+fn who(state: &SliceState<EitherFile>, pick: Pick) -> Who
     ensures { result ≡ who_takes 0 state.now.view pick }
 {
     match pick {
@@ -91,7 +91,7 @@ fn who<F: MissFile>(state: &SliceState<F>, pick: Pick) -> Who
 }
 
 /// The state of a core's copy of a line.
-fn copy<F: MissFile>(state: &SliceState<F>, line: LineAddr, core: CoreId) -> CopyState
+fn copy(state: &SliceState<EitherFile>, line: LineAddr, core: CoreId) -> CopyState
     ensures { result ≡ copy_at state.now.view line core }
 {
     if core.0 as usize >= state.cores() {
@@ -104,7 +104,7 @@ fn copy<F: MissFile>(state: &SliceState<F>, line: LineAddr, core: CoreId) -> Cop
 }
 
 /// The state of the directory's entry of a line.
-fn entry<F: MissFile>(state: &SliceState<F>, line: LineAddr) -> DirState
+fn entry(state: &SliceState<EitherFile>, line: LineAddr) -> DirState
     ensures { result ≡ entry_of state.now.view line }
 {
     match state.line_view(line) {

@@ -18,4 +18,3 @@ mod cells;
 mod judge;
 mod looks;
 mod simulator;
-mod slices;

@@ -3,7 +3,7 @@ ghost use Rattle.std.specs.Prelude.{◌≡◌, ◌<◌, [], IfNone, IfOk, IfSome
 ghost use Rattle.simulator.specs.Looks.{IsCountOf, flight_at, message_at, register_at, register_for, waiting_at};
 
 use address_map::{CoreId, LineAddr};
-use mshr_file::MissFile;
+use mshr_file::EitherFile;
 use slice_core::{CacheCopy, CoreLines, LineWaiting, Message, Pick, SliceState};
 use slice_queues_message::Channel;
 use std::alloc::{AllocError, Global};
@@ -19,9 +19,9 @@ pub struct MissRegister {
 }
 
 /// The core's miss register at a place of their order.
-pub(crate) fn register_at<F: MissFile>(
+pub(crate) fn register_at(
     alloc: Global,
-    state: &SliceState<F>,
+    state: &SliceState<EitherFile>,
     core: CoreId,
     nth: usize,
 ) -> Result<Option<MissRegister>, AllocError>
@@ -36,8 +36,8 @@ pub(crate) fn register_at<F: MissFile>(
 }
 
 /// The core's miss register for a line that it waits for.
-fn register_for<F: MissFile>(
-    state: &SliceState<F>,
+fn register_for(
+    state: &SliceState<EitherFile>,
     core: CoreId,
     line: LineAddr,
 ) -> Option<MissRegister>
@@ -54,7 +54,7 @@ fn register_for<F: MissFile>(
 }
 
 /// How many channels of a line have a message.
-pub(crate) fn count_waiting<F: MissFile>(state: &SliceState<F>, line: LineAddr) -> u64
+pub(crate) fn count_waiting(state: &SliceState<EitherFile>, line: LineAddr) -> u64
     ensures { IsCountOf result (waiting_at state.now.view line) }
 {
     match waiting_at(state, line) {
@@ -64,8 +64,8 @@ pub(crate) fn count_waiting<F: MissFile>(state: &SliceState<F>, line: LineAddr) 
 }
 
 /// The message in front of one of a line's channels, at a place of their order, and its channel.
-pub(crate) fn message_at<F: MissFile>(
-    state: &SliceState<F>,
+pub(crate) fn message_at(
+    state: &SliceState<EitherFile>,
     line: LineAddr,
     nth: u64,
 ) -> Option<(Pick, Message)>
@@ -76,7 +76,7 @@ pub(crate) fn message_at<F: MissFile>(
     flight_at(state, channel.at(line))
 }
 
-fn flight_at<F: MissFile>(state: &SliceState<F>, pick: Pick) -> Option<(Pick, Message)>
+fn flight_at(state: &SliceState<EitherFile>, pick: Pick) -> Option<(Pick, Message)>
     ensures { result ≡ flight_at state.now.view pick }
 {
     let message = state.front(pick)?;
@@ -84,7 +84,7 @@ fn flight_at<F: MissFile>(state: &SliceState<F>, pick: Pick) -> Option<(Pick, Me
 }
 
 /// The channels of a line that have a message; none for a line that isn't the slice's.
-fn waiting_at<F: MissFile>(state: &SliceState<F>, line: LineAddr) -> Option<LineWaiting<'_>>
+fn waiting_at(state: &SliceState<EitherFile>, line: LineAddr) -> Option<LineWaiting<'_>>
     ensures none { IfNone result (waiting_at state.now.view line ≡ []) }
     ensures some { IfSome result (λ left. left ≡ waiting_at state.now.view line) }
 {

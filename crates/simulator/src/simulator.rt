@@ -1,4 +1,4 @@
-ghost use Rattle.std.specs.Prelude.{◌≡◌, ◌/◌, ◌%◌, ◌<◌, ◌↔◌, All, IfErr, IfOk, IfSome, IsTrue};
+ghost use Rattle.std.specs.Prelude.{◌≡◌, ◌/◌, ◌%◌, ◌<◌, ◌↔◌, All, IfErr, IfOk, IfSome, IsTrue, length};
 ghost use Rattle.address_map.specs.Locator.{local_at};
 ghost use Rattle.address_map.specs.Place.{line_of as line_of_word};
 ghost use Rattle.litmus_script.specs.Issued.{IsIssued, IsOutOfMemory};
@@ -20,12 +20,12 @@ ghost use Rattle.slice_core_steps.specs.declared.core_lines.CoreLines.TheVariant
 ghost use Rattle.slice_queues_message.specs.Pick.{line_of};
 
 use super::looks::MissRegister;
-use super::slices;
+use super::{cells, looks};
 use address_map::{Checked, CoreId, LineAddr, Request, SliceId, WordAddr};
 use arrayvec::ArrayVec;
 use litmus_script::{Issued, Machine};
 use litmus_text::{Command, Settings, TextFault};
-use mshr_file::{ExplicitFile, InvertedFile, MissKind, Target};
+use mshr_file::Target;
 use protocol_coverage::Cell;
 use slice_core::{
     CacheCopy, Class, CoreLines, Decision, Delivered, DeliveredNext, Entry, Evicted, LineView,
@@ -33,11 +33,10 @@ use slice_core::{
 };
 use std::alloc::{AllocError, Global};
 
-/// A machine, whose caches have either kind of miss file.
+/// A machine of scripts, called one call at a time.
 #[derive(Drop)]
-pub enum Simulator {
-    Explicit(Machine<ExplicitFile>),
-    Inverted(Machine<InvertedFile>),
+pub struct Simulator {
+    pub machine: Machine,
 }
 
 impl Simulator {
@@ -48,29 +47,38 @@ impl Simulator {
     {
         let Settings { config, misses } = settings;
         let config = config.check().map_err(TextFault::Config)?;
-        match misses {
-            MissKind::Explicit => Ok(Simulator::Explicit(Machine::build(alloc, config)?)),
-            MissKind::Inverted => Ok(Simulator::Inverted(Machine::build(alloc, config)?)),
-        }
+        let machine = Machine::build(alloc, config, misses)?;
+        Ok(Simulator { machine })
     }
 
     /// The same machine, in memory of its own: it goes on by itself.
     pub fn try_clone(&self) -> Result<Self, AllocError>
         ensures { IfOk result (IsCopyOf self.now) }
     {
-        match self {
-            Simulator::Explicit(machine) => Ok(Simulator::Explicit(machine.try_clone()?)),
-            Simulator::Inverted(machine) => Ok(Simulator::Inverted(machine.try_clone()?)),
-        }
+        let machine = self.machine.try_clone()?;
+        Ok(Simulator { machine })
     }
 
     pub fn config(&self) -> &Checked
         ensures { result.now ≡ config_of self.now }
     {
-        match self {
-            Simulator::Explicit(machine) => &machine.config,
-            Simulator::Inverted(machine) => &machine.config,
-        }
+        &self.machine.config
+    }
+
+    /// The slice of a line. A remainder by a number that isn't known costs half as much as a hit.
+    #[inline(always)]
+    fn slice_of(&self, line: LineAddr) -> usize
+        ensures slice { result ≡ line.0 % (config_of self.now).slices }
+        ensures known { result < length (slices_of self.now) }
+    {
+        let slices = self.machine.config.slices() as u64;
+        let slice = match slices {
+            1 => 0,
+            2 => line.0 % 2,
+            4 => line.0 % 4,
+            _ => line.0 % slices,
+        };
+        slice as usize
     }
 
     /// A word past the memory goes to slice 0, which refuses it.
@@ -83,10 +91,8 @@ impl Simulator {
             ((line_of_word request.word).0 % (config_of self.old).slices)
             core request (slices_of self.old) (slices_of self.new)) }
     {
-        match self {
-            Simulator::Explicit(machine) => slices::issue(machine, core, request),
-            Simulator::Inverted(machine) => slices::issue(machine, core, request),
-        }
+        let slice = self.slice_of(request.word.line());
+        litmus_script::issue(&mut self.machine.slices[slice], core, request)
     }
 
     pub fn evict(&mut self, core: CoreId, line: LineAddr) -> Evicted
@@ -95,10 +101,7 @@ impl Simulator {
         ensures answered { IsAnswered (line.0 % (config_of self.old).slices)
             (slice_calls.Evict core line) (call_answers.Evict result) (slices_of self.old) (slices_of self.new) }
     {
-        match self {
-            Simulator::Explicit(machine) => machine.evict(core, line),
-            Simulator::Inverted(machine) => machine.evict(core, line),
-        }
+        self.machine.evict(core, line)
     }
 
     pub fn deliver(&mut self, pick: Pick) -> Delivered
@@ -106,10 +109,8 @@ impl Simulator {
         ensures answered { IsAnswered ((line_of pick).0 % (config_of self.old).slices)
             (slice_calls.Deliver pick) (call_answers.Deliver result) (slices_of self.old) (slices_of self.new) }
     {
-        match self {
-            Simulator::Explicit(machine) => slices::deliver(machine, pick),
-            Simulator::Inverted(machine) => slices::deliver(machine, pick),
-        }
+        let slice = self.slice_of(pick.line());
+        self.machine.slices[slice].deliver(pick)
     }
 
     /// Delivers the next message of a slice and of these channels that can be moved.
@@ -119,10 +120,7 @@ impl Simulator {
         ensures answered { IsAnswered slice.0 (slice_calls.DeliverNext class) (call_answers.DeliverNext result)
             (slices_of self.old) (slices_of self.new) }
     {
-        match self {
-            Simulator::Explicit(machine) => slices::deliver_next(machine, slice, class),
-            Simulator::Inverted(machine) => slices::deliver_next(machine, slice, class),
-        }
+        self.machine.slices[slice.0 as usize].deliver_next(class)
     }
 
     pub fn hand(&mut self, core: CoreId, slice: SliceId) -> Option<Numbered>
@@ -132,22 +130,16 @@ impl Simulator {
         ensures answered { IsAnswered slice.0 (slice_calls.Hand core) (call_answers.Hand result)
             (slices_of self.old) (slices_of self.new) }
     {
-        match self {
-            Simulator::Explicit(machine) => machine.hand(core, slice),
-            Simulator::Inverted(machine) => machine.hand(core, slice),
-        }
+        self.machine.hand(core, slice)
     }
 
     /// Begins a new log of a slice where it is quiet, and returns whether it is: see `SliceState::begin_log` of `slice_core`.
-    pub fn begin_log(&mut self, slice: SliceId) -> Result<bool, AllocError>
+    pub fn begin_log(&mut self, alloc: Global, slice: SliceId) -> Result<bool, AllocError>
         requires { slice.0 < (config_of self.old).slices }
         ensures config { config_of self.new ≡ config_of self.old }
         ensures begun { BeginsLogAt slice.0 result (slices_of self.old) (slices_of self.new) }
     {
-        match self {
-            Simulator::Explicit(machine) => slices::begin_log(machine, slice),
-            Simulator::Inverted(machine) => slices::begin_log(machine, slice),
-        }
+        self.machine.slices[slice.0 as usize].begin_log(alloc)
     }
 
     /// What [`Simulator::issue`] would decide of the request.
@@ -156,10 +148,7 @@ impl Simulator {
         ensures { HasAt (slices_of self.now) ((line_of_word request.word).0 % (config_of self.now).slices)
             (λ state. result ≡ decision_of state.view core request) }
     {
-        match self {
-            Simulator::Explicit(machine) => slices::decide(machine, core, request),
-            Simulator::Inverted(machine) => slices::decide(machine, core, request),
-        }
+        self.machine.slices[self.slice_of(request.word.line())].decide(core, request)
     }
 
     /// What [`Simulator::deliver`] would do.
@@ -167,10 +156,7 @@ impl Simulator {
         ensures { HasAt (slices_of self.now) ((line_of pick).0 % (config_of self.now).slices)
             (λ state. result ≡ planned_at state.view pick) }
     {
-        match self {
-            Simulator::Explicit(machine) => slices::plan(machine, pick),
-            Simulator::Inverted(machine) => slices::plan(machine, pick),
-        }
+        self.machine.slices[self.slice_of(pick.line())].plan(pick)
     }
 
     /// What [`Simulator::deliver_next`] would deliver.
@@ -178,10 +164,7 @@ impl Simulator {
         requires { slice.0 < (config_of self.now).slices }
         ensures { HasAt (slices_of self.now) slice.0 (λ state. result ≡ next_pick state class) }
     {
-        match self {
-            Simulator::Explicit(machine) => slices::next(machine, slice, class),
-            Simulator::Inverted(machine) => slices::next(machine, slice, class),
-        }
+        self.machine.slices[slice.0 as usize].next(class)
     }
 
     /// The cell of the tables that a command would meet: an eviction as where the write-back buffer has room for it.
@@ -189,9 +172,20 @@ impl Simulator {
         requires { HasItsCore (config_of self.now) command }
         ensures { MeetsCell (config_of self.now) (slices_of self.now) command result }
     {
-        match self {
-            Simulator::Explicit(machine) => slices::cell(machine, command),
-            Simulator::Inverted(machine) => slices::cell(machine, command),
+        match command {
+            Command::Issue { core, request } => {
+                let slice = self.slice_of(request.word.line());
+                cells::of_issue(&self.machine.slices[slice], core, request)
+            }
+            Command::Evict { core, line } => {
+                let slice = self.slice_of(line);
+                Some(cells::of_eviction(&self.machine.slices[slice], core, line))
+            }
+            Command::Deliver(pick) => {
+                let slice = self.slice_of(pick.line());
+                cells::of_delivery(&self.machine.slices[slice], pick)
+            }
+            _ => None,
         }
     }
 
@@ -201,20 +195,14 @@ impl Simulator {
         ensures { HasAt (slices_of self.now) (line.0 % (config_of self.now).slices)
             (λ state. result ≡ copy_at state.view core (local_at state.view.lines line.0)) }
     {
-        match self {
-            Simulator::Explicit(machine) => slices::copy(machine, core, line),
-            Simulator::Inverted(machine) => slices::copy(machine, core, line),
-        }
+        self.machine.slices[self.slice_of(line)].copy(core, line)
     }
 
     /// What its slice has of a line: none for a line that the memory doesn't have.
     pub fn line(&self, line: LineAddr) -> Option<LineView>
         ensures { IsLineView (slices_of self.now) (line.0 % (config_of self.now).slices) line result }
     {
-        match self {
-            Simulator::Explicit(machine) => machine.view(line),
-            Simulator::Inverted(machine) => machine.view(line),
-        }
+        self.machine.view(line)
     }
 
     /// The accesses of a core that wait for a line, the oldest first.
@@ -223,10 +211,7 @@ impl Simulator {
         ensures { HasAt (slices_of self.now) (line.0 % (config_of self.now).slices)
             (λ state. result.items ≡ targets_at state.view core (local_at state.view.lines line.0)) }
     {
-        match self {
-            Simulator::Explicit(machine) => slices::targets(machine, core, line),
-            Simulator::Inverted(machine) => slices::targets(machine, core, line),
-        }
+        self.machine.slices[self.slice_of(line)].targets(core, line)
     }
 
     /// The core's miss register at a place of their order in a slice.
@@ -242,10 +227,7 @@ impl Simulator {
         ensures { IfOk result (λ register. HasAt (slices_of self.now) slice.0
             (λ state. register ≡ register_at state.view core nth)) }
     {
-        match self {
-            Simulator::Explicit(machine) => slices::register_at(alloc, machine, core, slice, nth),
-            Simulator::Inverted(machine) => slices::register_at(alloc, machine, core, slice, nth),
-        }
+        looks::register_at(alloc, &self.machine.slices[slice.0 as usize], core, nth)
     }
 
     /// The lines of a slice for which a core holds a miss register, or those that it is writing back, the latest last.
@@ -261,10 +243,7 @@ impl Simulator {
         ensures { IfOk result (λ lines. HasAt (slices_of self.now) slice.0
             (λ state. lines.items ≡ lines_of_core state.view core which)) }
     {
-        match self {
-            Simulator::Explicit(machine) => slices::core_lines(alloc, machine, core, slice, which),
-            Simulator::Inverted(machine) => slices::core_lines(alloc, machine, core, slice, which),
-        }
+        self.machine.slices[slice.0 as usize].core_lines(alloc, core, which)
     }
 
     /// The lines in the set of a line, in the order of their slots.
@@ -278,10 +257,7 @@ impl Simulator {
         ensures { IfOk result (λ lines. HasAt (slices_of self.now) (line.0 % (config_of self.now).slices)
             (λ state. lines.items ≡ lines_of_core state.view core (core_lines.InSetOf line))) }
     {
-        match self {
-            Simulator::Explicit(machine) => slices::set_lines(alloc, machine, core, line),
-            Simulator::Inverted(machine) => slices::set_lines(alloc, machine, core, line),
-        }
+        self.machine.slices[self.slice_of(line)].core_lines(alloc, core, CoreLines::InSetOf(line))
     }
 
     /// How many channels of a line have a message.
@@ -289,10 +265,7 @@ impl Simulator {
         ensures { HasAt (slices_of self.now) (line.0 % (config_of self.now).slices)
             (λ state. IsCountOf result (waiting_at state.view line)) }
     {
-        match self {
-            Simulator::Explicit(machine) => slices::count_waiting(machine, line),
-            Simulator::Inverted(machine) => slices::count_waiting(machine, line),
-        }
+        looks::count_waiting(&self.machine.slices[self.slice_of(line)], line)
     }
 
     /// The message in front of one of a line's channels, at a place of their order, and its channel.
@@ -300,20 +273,14 @@ impl Simulator {
         ensures { HasAt (slices_of self.now) (line.0 % (config_of self.now).slices)
             (λ state. result ≡ message_at state.view line nth) }
     {
-        match self {
-            Simulator::Explicit(machine) => slices::message_at(machine, line, nth),
-            Simulator::Inverted(machine) => slices::message_at(machine, line, nth),
-        }
+        looks::message_at(&self.machine.slices[self.slice_of(line)], line, nth)
     }
 
     /// Whether nothing is in flight, and each reply is handed out.
     pub fn is_quiet(&self) -> bool
         ensures { IsTrue result ↔ All (λ state. IsQuiet state.view) (slices_of self.now) }
     {
-        match self {
-            Simulator::Explicit(machine) => machine.is_quiet(),
-            Simulator::Inverted(machine) => machine.is_quiet(),
-        }
+        self.machine.is_quiet()
     }
 
     /// The value of a word of the memory, where its slice is quiet.
@@ -321,10 +288,7 @@ impl Simulator {
         requires { word.0 / 8 < (config_of self.now).lines }
         ensures { IsShownWord (slices_of self.now) (word.0 / 8 % (config_of self.now).slices) word result }
     {
-        match self {
-            Simulator::Explicit(machine) => machine.word_now(word),
-            Simulator::Inverted(machine) => machine.word_now(word),
-        }
+        self.machine.word_now(word)
     }
 
     /// What a slice has counted.
@@ -332,19 +296,13 @@ impl Simulator {
         requires { slice.0 < (config_of self.now).slices }
         ensures { HasAt (slices_of self.now) slice.0 (λ state. result.now ≡ state.stats) }
     {
-        match self {
-            Simulator::Explicit(machine) => slices::stats(machine, slice),
-            Simulator::Inverted(machine) => slices::stats(machine, slice),
-        }
+        self.machine.slices[slice.0 as usize].stats()
     }
 
     /// What a slice has performed, in order.
     pub fn log(&self, slice: SliceId) -> &[Entry]
         ensures { result.now ≡ log_at (slices_of self.now) slice.0 }
     {
-        match self {
-            Simulator::Explicit(machine) => machine.log_of(slice),
-            Simulator::Inverted(machine) => machine.log_of(slice),
-        }
+        self.machine.log_of(slice)
     }
 }

@@ -3,17 +3,17 @@ use Rattle.litmus_rounds.proofs.RoundLemmas.{no_rounds, rounds_push}
 use Rattle.litmus_rounds.proofs.stretch.walk_rounds.Goals as goal
 
 pub loop-round-init : goal.loop-round-init
-loop-round-init g c = no_rounds _ _ _ _ _ c.requires.none
+loop-round-init c = no_rounds _ _ _ _ _ c.requires.none
 
 pub add_outcome-requires-clause-fits : goal.add_outcome-requires-clause-fits
-add_outcome-requires-clause-fits g c =
+add_outcome-requires-clause-fits c =
     omega (arith, c.loop-round.invariant.counted, c.loop-round.invariant.table_of.count)
 
 pub add_outcome-requires-clause-config : goal.add_outcome-requires-clause-config
-add_outcome-requires-clause-config g c = c.in_ok-walked.ensures.walk.shape
+add_outcome-requires-clause-config c = c.in_ok-walked.ensures.walk.shape
 
 pub loop-round-preserved : goal.loop-round-preserved
-loop-round-preserved g c =
+loop-round-preserved c =
     let walked = c.in_ok-walked in
     let added = c.in_ok-added.ensures.added c.if-not-added.false in
     let over = c.in-Over.is in
@@ -27,7 +27,7 @@ loop-round-preserved g c =
     }) added.2
 
 pub returns-in-Stuck : goal.returns-in-Stuck
-returns-in-Stuck g c =
+returns-in-Stuck c =
     let walked = c.in_ok-walked in (
       c.loop-round-test.true,
       c.loop-round.invariant,
@@ -41,7 +41,7 @@ returns-in-Stuck g c =
     )
 
 pub returns-in-GaveUp : goal.returns-in-GaveUp
-returns-in-GaveUp g c =
+returns-in-GaveUp c =
     let walked = c.in_ok-walked in (
       c.loop-round-test.true,
       c.loop-round.invariant,
@@ -53,7 +53,7 @@ returns-in-GaveUp g c =
     )
 
 pub returns-then-not-added : goal.returns-then-not-added
-returns-then-not-added g c =
+returns-then-not-added c =
     let walked = c.in_ok-walked in (
       c.loop-round-test.true,
       rw (c.in_ok-added.ensures.kept c.if-not-added.true) c.loop-round.invariant,

@@ -3,6 +3,6 @@ use Rattle.litmus_script.proofs.CallLemmas.{delivered_next}
 use Rattle.litmus_script.proofs.calls.deliver_next.Goals as goal
 
 pub returns-clause-made : goal.returns-clause-made
-returns-clause-made g c =
+returns-clause-made c =
     delivered_next c.args.state.now c.deliver_next.new.self classes.Any c.deliver_next.result
     c.deliver_next.ensures.step

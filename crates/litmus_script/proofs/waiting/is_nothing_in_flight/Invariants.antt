@@ -4,4 +4,4 @@ use Rattle.litmus_script.proofs.waiting.is_nothing_in_flight.Given as goal
 
 -- in the slices so far there is none
 abbrev pub invariant-loop-state : goal.invariant-loop-state
-invariant-loop-state g l = in_flight (drop l.state-index l.slices) ≡ in_flight l.slices
+invariant-loop-state l = in_flight (drop l.state-index l.slices) ≡ in_flight l.slices

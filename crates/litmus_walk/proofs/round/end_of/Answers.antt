@@ -4,10 +4,10 @@ use Rattle.std.proofs.lemmas.List.{nil_from_length}
 use Rattle.litmus_walk.proofs.round.end_of.Goals as goal
 
 pub returns-then-is_over : goal.returns-then-is_over
-returns-then-is_over g c = c.is_over.ensures.0 c.if-is_over.true
+returns-then-is_over c = c.is_over.ensures.0 c.if-is_over.true
 
 pub returns-then-is_empty : goal.returns-then-is_empty
-returns-then-is_empty g c =
+returns-then-is_empty c =
     let moves = c.list_moves.new.moves in
     let count : vec_len moves ≡ 0 = eqb-true _ _ (sym c.is_empty.ensures ∙ c.if-is_empty.true) in
     let none : length moves.items ≡ 0 = omega (arith, count, moves.ok.0) in (
@@ -16,7 +16,7 @@ returns-then-is_empty g c =
     )
 
 pub returns : goal.returns
-returns g c =
+returns c =
     let moves = c.list_moves.new.moves in (
       λ over. let is : c.is_over.result ≡ true = c.is_over.ensures.1 over in cc,
       λ none.

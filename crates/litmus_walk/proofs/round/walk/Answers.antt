@@ -5,7 +5,7 @@ use Rattle.litmus_walk.proofs.DoneLemmas.{done-all, done-none, first-zeros}
 use Rattle.litmus_walk.proofs.round.walk.Goals as goal
 
 pub returns-clause-done : goal.returns-clause-done
-returns-clause-done g c =
+returns-clause-done c =
     let threads = c.args.test.now.threads.items in
     let first = c.in_ok-walker.walker in
     let last = c.walk_on.new.walker in
@@ -17,10 +17,10 @@ returns-clause-done g c =
     done-all threads (steps_of last.places.items) last.recorded.calls (c.in_ok-walk_on.ensures.done begins) ends.0
 
 pub returns-clause-over : goal.returns-clause-over
-returns-clause-over g c = λ over. let ends = rw over at c.in_ok-end.ensures in ends.1
+returns-clause-over c = λ over. let ends = rw over at c.in_ok-end.ensures in ends.1
 
 pub returns-clause-drawn : goal.returns-clause-drawn
-returns-clause-drawn g c =
+returns-clause-drawn c =
     let first = c.in_ok-walker.walker in
     let last = c.walk_on.new.walker in
     record {

@@ -7,7 +7,7 @@ use Rattle.litmus_walk.proofs.DrawLemmas.{HasMade}
 use Rattle.litmus_walk.proofs.round.walk_on.Given as goal
 
 abbrev pub invariant-loop-made : goal.invariant-loop-made
-invariant-loop-made g l = record {
+invariant-loop-made l = record {
   walks : Walks l.test.threads.items l.fn.walker.recorded l.walker.recorded;
   done : GoesOn l.test.threads.items (steps_of l.fn.walker.places.items) l.fn.walker.recorded.calls
       (steps_of l.walker.places.items) l.walker.recorded.calls;

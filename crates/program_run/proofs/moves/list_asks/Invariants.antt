@@ -8,7 +8,7 @@ use Rattle.program_run.proofs.moves.list_asks.Given as goal
 
 -- those of the programs so far
 abbrev pub invariant-loop-number : goal.invariant-loop-number
-invariant-loop-number g l =
+invariant-loop-number l =
     (l.moves.items ≡ l.initial.moves.items
     ++ map moves.Ask (filter (may_ask l.machine.config l.programs l.machine.slices.items l.places)
     (range_with_len 0 l.number)))

@@ -4,10 +4,10 @@ use Rattle.program_run.proofs.OwedLemmas.{or_else_some, owed_here, owed_past}
 use Rattle.program_run.proofs.owed.list_owed.Goals as goal
 
 pub loop-slice-init : goal.loop-slice-init
-loop-slice-init g c = record { none = c.requires.first; left = refl; kept = c.requires.kept }
+loop-slice-init c = record { none = c.requires.first; left = refl; kept = c.requires.kept }
 
 pub loop-slice-preserved : goal.loop-slice-preserved
-loop-slice-preserved g c =
+loop-slice-preserved c =
     let owed = c.args.owed.now in
     let slices = c.args.machine.now.slices.items in
     let slice = c.loop-slice.slice in
@@ -22,7 +22,7 @@ loop-slice-preserved g c =
     }
 
 pub returns-then-not-is_none-clause-moves : goal.returns-then-not-is_none-clause-moves
-returns-then-not-is_none-clause-moves g c =
+returns-then-not-is_none-clause-moves c =
     let owed = c.args.owed.now in
     let slices = c.args.machine.now.slices.items in
     let slice = c.loop-slice.slice in
@@ -33,7 +33,7 @@ returns-then-not-is_none-clause-moves g c =
     sym (c.loop-slice.invariant.left ∙ owed_here owed slices slice new below listed ∙ or_else_some new _ some)
 
 pub returns-clause-moves : goal.returns-clause-moves
-returns-clause-moves g c =
+returns-clause-moves c =
     let slices = c.args.machine.now.slices.items in
     let past : length slices ≡ length slices = refl in
     c.loop-slice.invariant.none

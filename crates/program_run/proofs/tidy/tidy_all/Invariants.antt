@@ -7,7 +7,7 @@ use Rattle.program_run.proofs.tidy.tidy_all.Given as goal
 
 -- whatever tidies the slices that are left, tidies all
 abbrev pub invariant-loop-slice : goal.invariant-loop-slice
-invariant-loop-slice g l =
+invariant-loop-slice l =
     let slices = l.initial.machine.config.slices in
     (l.machine.config ≡ l.initial.machine.config)
     × ((end : List PartsView) (left : ℕ) → l.slice + left ≡ slices

@@ -4,7 +4,7 @@ use Rattle.script_explained.proofs.NextLemmas.{nothing_next}
 use Rattle.script_explained.proofs.delivery.deliver_next.Goals as goal
 
 pub returns-in_default-clause-made : goal.returns-in_default-clause-made
-returns-in_default-clause-made g c =
+returns-in_default-clause-made c =
     let old = c.args.state.now in
     let new = c.deliver_next.new.self in
     let step = c.deliver_next.ensures.step in

@@ -5,7 +5,7 @@ use Rattle.script_explained.specs.Delivery.{delivery_of}
 use Rattle.script_explained.proofs.delivery.deliver_picked.Goals as goal
 
 pub returns-clause-made : goal.returns-clause-made
-returns-clause-made g c =
+returns-clause-made c =
     let old = c.args.state.now in
     let new = c.deliver_next-answer.new.self in
     let pick = c.args.pick in

@@ -6,10 +6,10 @@ use Rattle.step_text.specs.declared.issue.Issue.{Issue}
 use Rattle.script_explained.proofs.issue.issue.Goals as goal
 
 pub returns-clause-request : goal.returns-clause-request
-returns-clause-request g c = ap (λ (i : Issue). i.request) c.decided-decided.ensures
+returns-clause-request c = ap (λ (i : Issue). i.request) c.decided-decided.ensures
 
 pub returns-clause-made : goal.returns-clause-made
-returns-clause-made g c =
+returns-clause-made c =
     let old = c.args.state.now in
     let new = c.issue.new.state in
     let asked : c.decided-decided.result.request ≡ c.args.request = ap (λ (i : Issue). i.request) c.decided-decided.ensures in

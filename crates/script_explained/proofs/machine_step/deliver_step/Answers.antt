@@ -5,7 +5,7 @@ use Rattle.slice_queues_message.specs.Pick.{line_of}
 use Rattle.script_explained.proofs.machine_step.deliver_step.Goals as goal
 
 pub returns-clause-step : goal.returns-clause-step
-returns-clause-step g c =
+returns-clause-step c =
     let config = c.args.machine.now.config in
     let at : c.slice_of-slice.result ≡ (line_of c.args.pick).0 % config.slices =
     c.slice_of-slice.ensures.slice ∙ ap (λ (line : LineAddr). line.0 % config.slices) c.line.ensures in

@@ -5,7 +5,7 @@ use Rattle.script_explained.proofs.PlayerLemmas.{access_made}
 use Rattle.script_explained.proofs.machine_step.issue_step.Goals as goal
 
 pub returns-clause-step : goal.returns-clause-step
-returns-clause-step g c =
+returns-clause-step c =
     let config = c.args.machine.now.config in
     let made = c.in_ok-access.ensures in
     let at : c.slice_of-slice.result ≡ (line_of c.args.request.word).0 % config.slices =

@@ -5,7 +5,7 @@ use Rattle.script_explained.specs.Unrest.{replies_of}
 use Rattle.script_explained.proofs.unrest.first_reply.Goals as goal
 
 pub returns-then-is_some : goal.returns-then-is_some
-returns-then-is_some g c =
+returns-then-is_some c =
     let v = c.args.state.now.view in
     let cores = length v.caches in
     c.first_reply_of-reply.ensures
@@ -15,7 +15,7 @@ returns-then-is_some g c =
     ∙ ap (λ all. slice_get all 0) c.loop-core.invariant
 
 pub loop-core-preserved : goal.loop-core-preserved
-loop-core-preserved g c =
+loop-core-preserved c =
     let v = c.args.state.now.view in
     let cores = length v.caches in
     sym (none_here (λ core. replies_of v (record { 0 = core })) c.loop-core.core cores
@@ -24,7 +24,7 @@ loop-core-preserved g c =
     ∙ c.loop-core.invariant
 
 pub returns : goal.returns
-returns g c =
+returns c =
     let v = c.args.state.now.view in
     let cores = length v.caches in
     sym (none_left (λ core. replies_of v (record { 0 = core })) c.loop-core.core cores

@@ -8,7 +8,7 @@ use Rattle.slice_core_cache.specs.Tags.{is_performed}
 use Rattle.script_explained.proofs.unrest.first_reply_of.Goals as goal
 
 pub returns-in-Performed : goal.returns-in-Performed
-returns-in-Performed g c =
+returns-in-Performed c =
     let v = c.args.state.now.view in
     sym (here (λ tag. unrests.Reply c.args.core tag)
     (λ tag. is_performed (tag_at (cache_at v c.args.core) tag)) c.loop-tag.tag 64
@@ -16,7 +16,7 @@ returns-in-Performed g c =
     ∙ ap (λ all. slice_get all 0) c.loop-tag.invariant
 
 pub loop-tag-preserved : goal.loop-tag-preserved
-loop-tag-preserved g c =
+loop-tag-preserved c =
     let v = c.args.state.now.view in
     sym (not_here (λ tag. unrests.Reply c.args.core tag)
     (λ tag. is_performed (tag_at (cache_at v c.args.core) tag)) c.loop-tag.tag 64
@@ -24,7 +24,7 @@ loop-tag-preserved g c =
     ∙ c.loop-tag.invariant
 
 pub returns : goal.returns
-returns g c =
+returns c =
     let v = c.args.state.now.view in
     sym (nothing_left (λ tag. unrests.Reply c.args.core tag)
     (λ tag. is_performed (tag_at (cache_at v c.args.core) tag)) c.loop-tag.tag 64

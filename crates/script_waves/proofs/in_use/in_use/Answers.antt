@@ -4,7 +4,7 @@ use Rattle.slice_core_plan.specs.View.{cache_at}
 use Rattle.script_waves.proofs.in_use.in_use.Goals as goal
 
 pub returns : goal.returns
-returns g c =
+returns c =
     let v = c.args.state.now.view in
     let cache = cache_at v c.args.core in
     let registers : length c.as_slice.result.now ≡ length cache.misses =

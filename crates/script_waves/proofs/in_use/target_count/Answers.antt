@@ -7,7 +7,7 @@ use Rattle.slice_core_plan.specs.View.{cache_at}
 use Rattle.script_waves.proofs.in_use.target_count.Goals as goal
 
 pub loop-tag-preserved : goal.loop-tag-preserved
-loop-tag-preserved g c =
+loop-tag-preserved c =
     let cache = cache_at c.args.state.now.view c.args.core in
     let count : ℕ → ℕ = λ tag. open_of (tag_at cache tag) in
     let more = numbers_more (λ (xs : List ℕ). sum_of count xs) 64 c.loop-tag.tag c.loop-tag-test.true in
@@ -19,7 +19,7 @@ loop-tag-preserved g c =
 
 pub returns : goal.returns
 unfolding target_count
-returns g c =
+returns c =
     let cache = cache_at c.args.state.now.view c.args.core in
     let count : ℕ → ℕ = λ tag. open_of (tag_at cache tag) in
     let end = c.loop-tag-test.false in

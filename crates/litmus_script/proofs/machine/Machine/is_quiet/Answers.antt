@@ -6,7 +6,7 @@ use Rattle.litmus_script.proofs.MachineLemmas.{each_more}
 use Rattle.litmus_script.proofs.machine.Machine.is_quiet.Goals as goal
 
 pub loop-state-preserved : goal.loop-state-preserved
-loop-state-preserved g c =
+loop-state-preserved c =
     let here = rw c.deref-state-items.ensures.value at c.state-item.is in
     let within = rw c.deref-state-items.ensures.value at c.loop-state-test.true in
     each_more (λ (p : PartsView). IsQuiet p.view) c.args.self.now.slices.items c.loop-state.state-index
@@ -14,7 +14,7 @@ loop-state-preserved g c =
     within c.loop-state.invariant (c.is_quiet.ensures.0 c.if-not-is_quiet.false)
 
 pub returns-then-not-is_quiet : goal.returns-then-not-is_quiet
-returns-then-not-is_quiet g c =
+returns-then-not-is_quiet c =
     let here = rw c.deref-state-items.ensures.value at c.state-item.is in
     let within = rw c.deref-state-items.ensures.value at c.loop-state-test.true in (
       λ no. (cc),

@@ -4,5 +4,5 @@ use Rattle.slice_core_plan.specs.View.{IsQuiet}
 use Rattle.litmus_script.proofs.machine.Machine.is_quiet.Given as goal
 
 abbrev pub invariant-loop-state : goal.invariant-loop-state
-invariant-loop-state g l =
+invariant-loop-state l =
     (k : ℕ) (d : PartsView) → k < l.state-index → IsQuiet (get_or l.self.slices.items k d).view

@@ -8,7 +8,7 @@ use Rattle.litmus_script.proofs.MachineLemmas.{are_alike}
 use Rattle.litmus_script.proofs.machine.Machine.stats.Goals as goal
 
 pub returns-clause-alike : goal.returns-clause-alike
-returns-clause-alike g c =
+returns-clause-alike c =
     let stats = c.loop-slice.stats.items in
     let as_many : length (views_of stats) ≡ c.loop-slice.slice =
     length-map stats (λ (s : Bor StatsView). s.now) ∙ c.loop-slice.invariant.count in
@@ -23,7 +23,7 @@ returns-clause-alike g c =
     are_alike c.args.self.now.config (views_of stats) some c.loop-slice.invariant.each
 
 pub returns-clause-counts : goal.returns-clause-counts
-returns-clause-counts g c =
+returns-clause-counts c =
     let slices = c.args.self.now.slices.items in
     let all : length slices ≤ c.loop-slice.slice = omega
     (arith, c.loop-slice-test.false, c.slices-slice-end.ensures.slices, c.args.self.now.shaped.count) in

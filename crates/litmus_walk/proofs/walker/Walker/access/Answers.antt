@@ -6,7 +6,7 @@ use Rattle.litmus_walk.proofs.DoneLemmas.{done-made, done-stalled}
 use Rattle.litmus_walk.proofs.walker.Walker.access.Goals as goal
 
 pub returns-in-Done-clause-done : goal.returns-in-Done-clause-done
-returns-in-Done-clause-done g c = λ threads is.
+returns-in-Done-clause-done c = λ threads is.
     let makes = rw c.in-Done.is at c.in_ok-issue.ensures.made in
     rw (c.done.ensures.recorded, c.done.ensures.steps, makes.calls)
     (done-made threads (steps_of c.args.self.now.places.items) c.args.self.now.recorded.calls (record {
@@ -18,7 +18,7 @@ returns-in-Done-clause-done g c = λ threads is.
     c.args.program.now (actions.Access c.args.word c.args.op) refl refl refl is c.requires.asks c.requires.stands)
 
 pub returns-in-Pending-clause-done : goal.returns-in-Pending-clause-done
-returns-in-Pending-clause-done g c = λ threads is.
+returns-in-Pending-clause-done c = λ threads is.
     let makes = rw c.in-Pending.is at c.in_ok-issue.ensures.made in
     rw (
       c.done-in-Pending.ensures.recorded,
@@ -36,7 +36,7 @@ returns-in-Pending-clause-done g c = λ threads is.
     c.args.program.now (actions.Access c.args.word c.args.op) refl refl refl is c.requires.asks c.requires.stands)
 
 pub returns-in-Stall-clause-done : goal.returns-in-Stall-clause-done
-returns-in-Stall-clause-done g c = λ threads is.
+returns-in-Stall-clause-done c = λ threads is.
     let makes = rw c.in-Stall.is at c.in_ok-issue.ensures.made in
     rw (makes.calls)
     (done-stalled threads (steps_of c.args.self.now.places.items) c.args.self.now.recorded.calls (record {
@@ -47,7 +47,7 @@ returns-in-Stall-clause-done g c = λ threads is.
     }) c.args.at refl refl)
 
 pub returns-in-Refused-clause-done : goal.returns-in-Refused-clause-done
-returns-in-Refused-clause-done g c = λ threads is.
+returns-in-Refused-clause-done c = λ threads is.
     let makes = rw c.in-Refused.is at c.in_ok-issue.ensures.made in
     rw (makes.calls)
     (done-stalled threads (steps_of c.args.self.now.places.items) c.args.self.now.recorded.calls (record {

@@ -5,7 +5,7 @@ use Rattle.litmus_walk.proofs.DoneLemmas.{done-moved}
 use Rattle.litmus_walk.proofs.walker.Walker.deliver.Goals as goal
 
 pub returns-clause-done : goal.returns-clause-done
-returns-clause-done g c =
+returns-clause-done c =
     rw c.in_ok-deliver.ensures.calls
     (done-moved c.args.test.now.threads.items (steps_of c.args.self.now.places.items) c.args.self.now.recorded.calls
     (record { command = commands.Deliver c.args.pick; step = None; done = true }) refl)

@@ -6,7 +6,7 @@ use Rattle.litmus_walk.proofs.MoveLemmas.{hands-one}
 use Rattle.litmus_walk.proofs.walker.Walker.hand.Goals as goal
 
 pub returns-in-Some-2-clause-done : goal.returns-in-Some-2-clause-done
-returns-in-Some-2-clause-done g c =
+returns-in-Some-2-clause-done c =
     rw (c.set_waiting.ensures.recorded, c.set_waiting.ensures.steps, c.in_ok-given.ensures.made.calls)
     (done-moved c.args.test.now.threads.items (steps_of c.args.self.now.places.items) c.args.self.now.recorded.calls
     (record {
@@ -16,7 +16,7 @@ returns-in-Some-2-clause-done g c =
     }) refl)
 
 pub returns-in_default-2-clause-done : goal.returns-in_default-2-clause-done
-returns-in_default-2-clause-done g c =
+returns-in_default-2-clause-done c =
     rw c.in_ok-given.ensures.made.calls
     (done-moved c.args.test.now.threads.items (steps_of c.args.self.now.places.items) c.args.self.now.recorded.calls
     (record {
@@ -26,7 +26,7 @@ returns-in_default-2-clause-done g c =
     }) refl)
 
 pub returns-in-Some-2-clause-goes : goal.returns-in-Some-2-clause-goes
-returns-in-Some-2-clause-goes g c =
+returns-in-Some-2-clause-goes c =
     let threads = c.args.test.now.threads.items in
     let reply = c.swap_remove-thread.result in
     let look = rw c.deref.ensures.value at c.in-Some.ensures.lookup in
@@ -42,7 +42,7 @@ returns-in-Some-2-clause-goes g c =
     (c.set_waiting.ensures.replies ∙ c.swap_remove-thread.ensures.items))
 
 pub returns-in_default-2-clause-goes : goal.returns-in_default-2-clause-goes
-returns-in_default-2-clause-goes g c =
+returns-in_default-2-clause-goes c =
     let threads = c.args.test.now.threads.items in
     let reply = c.swap_remove-thread.result in
     let look = rw c.deref.ensures.value at c.in-Some.ensures.lookup in

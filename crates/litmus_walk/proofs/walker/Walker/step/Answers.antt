@@ -8,13 +8,13 @@ use Rattle.litmus_walk.proofs.WalkLemmas.{walks_by}
 use Rattle.litmus_walk.proofs.walker.Walker.step.Goals as goal
 
 pub returns-in-Some-Access-clause-done : goal.returns-in-Some-Access-clause-done
-returns-in-Some-Access-clause-done g c =
+returns-in-Some-Access-clause-done c =
     let look = rw c.deref.ensures.value at c.in-Some-Some.ensures.lookup in
     c.access.ensures.done c.args.test.now.threads.items
     (item-at c.args.test.now.threads.items c.args.thread c.in-Some-Some.program.now look.3.0 look.1)
 
 pub returns-in_ok-evict-in-Some-Evict-clause-walks : goal.returns-in_ok-evict-in-Some-Evict-clause-walks
-returns-in_ok-evict-in-Some-Evict-clause-walks g c =
+returns-in_ok-evict-in-Some-Evict-clause-walks c =
     let threads = c.args.test.now.threads.items in
     let steps = steps_of c.args.self.now.places.items in
     let calls = c.args.self.now.recorded.calls in
@@ -35,7 +35,7 @@ returns-in_ok-evict-in-Some-Evict-clause-walks g c =
     (rw is_thread (refl, is_step)) c.in_ok-evict-in-Some-Evict.ensures)
 
 pub returns-in_ok-evict-in-Some-Evict-clause-done : goal.returns-in_ok-evict-in-Some-Evict-clause-done
-returns-in_ok-evict-in-Some-Evict-clause-done g c =
+returns-in_ok-evict-in-Some-Evict-clause-done c =
     let threads = c.args.test.now.threads.items in
     let steps = steps_of c.args.self.now.places.items in
     let calls = c.args.self.now.recorded.calls in
@@ -61,7 +61,7 @@ returns-in_ok-evict-in-Some-Evict-clause-done g c =
     is_thread is_step stands)
 
 pub returns-in-Some-Settle-clause-done : goal.returns-in-Some-Settle-clause-done
-returns-in-Some-Settle-clause-done g c =
+returns-in-Some-Settle-clause-done c =
     let threads = c.args.test.now.threads.items in
     let steps = steps_of c.args.self.now.places.items in
     let calls = c.args.self.now.recorded.calls in

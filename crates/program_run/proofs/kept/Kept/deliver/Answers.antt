@@ -5,7 +5,7 @@ use Rattle.program_run.proofs.KeptLemmas.{delivery_idle, delivery_leaves}
 use Rattle.program_run.proofs.kept.Kept.deliver.Goals as goal
 
 pub returns-clause-kept : goal.returns-clause-kept
-returns-clause-kept g c =
+returns-clause-kept c =
     let config = c.args.machine.now.config in
     let old = c.args.machine.now.slices.items in
     let new = c.deliver.new.self.slices.items in

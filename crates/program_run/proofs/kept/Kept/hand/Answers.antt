@@ -2,7 +2,7 @@ use Rattle.program_run.proofs.KeptLemmas.{hand_idle, hand_leaves}
 use Rattle.program_run.proofs.kept.Kept.hand.Goals as goal
 
 pub returns-clause-kept : goal.returns-clause-kept
-returns-clause-kept g c =
+returns-clause-kept c =
     let config = c.args.machine.now.config in
     let old = c.args.machine.now.slices.items in
     let new = c.hand.new.self.slices.items in

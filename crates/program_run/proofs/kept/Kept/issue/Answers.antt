@@ -4,7 +4,7 @@ use Rattle.program_run.proofs.KeptLemmas.{issue_idle, issue_leaves}
 use Rattle.program_run.proofs.kept.Kept.issue.Goals as goal
 
 pub returns-in-Ok-clause-kept : goal.returns-in-Ok-clause-kept
-returns-in-Ok-clause-kept g c =
+returns-in-Ok-clause-kept c =
     let config = c.args.machine.now.config in
     let slice = (line_of c.args.request.word).0 % config.slices in
     let old = c.args.machine.now.slices.items in

@@ -7,7 +7,7 @@ use Rattle.program_run.specs.Run.{waiting_in}
 use Rattle.program_run.proofs.kept.Kept.list_waiting.Goals as goal
 
 pub list_waiting-requires : goal.list_waiting-requires
-list_waiting-requires g c =
+list_waiting-requires c =
     let slices = c.args.machine.now.slices.items in
     let state = c.index.result.now in
     let found : slice_get slices c.args.slice ≡ Some state =
@@ -15,7 +15,7 @@ list_waiting-requires g c =
     rw c.idle_of-idle.ensures (c.requires.kept.idle c.args.slice state found)
 
 pub returns-clause-moves : goal.returns-clause-moves
-returns-clause-moves g c =
+returns-clause-moves c =
     let slices = c.args.machine.now.slices.items in
     let state = c.index.result.now in
     let found : slice_get slices c.args.slice ≡ Some state =
@@ -25,7 +25,7 @@ returns-clause-moves g c =
     c.in_ok-list_waiting.ensures.moves
 
 pub returns-clause-kept : goal.returns-clause-kept
-returns-clause-kept g c =
+returns-clause-kept c =
     let slices = c.args.machine.now.slices.items in
     let state = c.index.result.now in
     let found : slice_get slices c.args.slice ≡ Some state =

@@ -4,7 +4,7 @@ use Rattle.program_run.proofs.KeptLemmas.{looks_past}
 use Rattle.program_run.proofs.kept.Kept.look_behind.Goals as goal
 
 pub returns-then-slice-len-clause-idle : goal.returns-then-slice-len-clause-idle
-returns-then-slice-len-clause-idle g c =
+returns-then-slice-len-clause-idle c =
     let counts = c.args.self.now.idle.items in
     let past : length counts ≤ c.slice_of-slice.result = search rules in
     subst (λ n. LooksBehind c.args.machine.now.slices.items n c.args.core c.args.line counts counts)

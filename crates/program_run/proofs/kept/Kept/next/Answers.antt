@@ -8,7 +8,7 @@ use Rattle.program_run.specs.Run.{delivery_of}
 use Rattle.program_run.proofs.kept.Kept.next.Goals as goal
 
 pub next_delivery-next-requires : goal.next_delivery-next-requires
-next_delivery-next-requires g c =
+next_delivery-next-requires c =
     let slices = c.args.machine.now.slices.items in
     let state = c.index.result.now in
     let found : slice_get slices c.args.slice ≡ Some state =
@@ -16,7 +16,7 @@ next_delivery-next-requires g c =
     rw c.idle_of-idle.ensures (c.requires.kept.idle c.args.slice state found)
 
 pub returns-clause-next : goal.returns-clause-next
-returns-clause-next g c =
+returns-clause-next c =
     let slices = c.args.machine.now.slices.items in
     let state = c.index.result.now in
     let found : slice_get slices c.args.slice ≡ Some state =
@@ -26,7 +26,7 @@ returns-clause-next g c =
     c.next_delivery-next.ensures.next
 
 pub returns-clause-kept : goal.returns-clause-kept
-returns-clause-kept g c =
+returns-clause-kept c =
     let slices = c.args.machine.now.slices.items in
     let state = c.index.result.now in
     let found : slice_get slices c.args.slice ≡ Some state =

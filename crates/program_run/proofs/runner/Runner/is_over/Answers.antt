@@ -5,7 +5,7 @@ use Rattle.program_run.specs.Run.{HaveEnded, RunnerView}
 use Rattle.program_run.proofs.runner.Runner.is_over.Goals as goal
 
 pub returns-then-have_ended : goal.returns-then-have_ended
-returns-then-have_ended g c =
+returns-then-have_ended c =
     let programs = c.args.programs.now.cores.items in
     let found = c.have_ended.ensures.0 c.if-have_ended.true in
     let ended : HaveEnded programs c.self.inside.places.items =

@@ -6,11 +6,11 @@ use Rattle.program_run.proofs.OwedLemmas.{or_else_some}
 use Rattle.program_run.proofs.runner.Runner.list_moves.Goals as goal
 
 pub list_owed-requires-clause-kept : goal.list_owed-requires-clause-kept
-list_owed-requires-clause-kept g c =
+list_owed-requires-clause-kept c =
     subst (λ (runner : RunnerView). Knows runner.config runner.slices c.args.kept.now) (sym c.self.view_is) c.requires
 
 pub returns-then-not-is_none-clause-moves : goal.returns-then-not-is_none-clause-moves
-returns-then-not-is_none-clause-moves g c =
+returns-then-not-is_none-clause-moves c =
     let some : c.list_owed.new.moves.items ≢ [] = search rules in
     subst (λ (runner : RunnerView). c.list_owed.new.moves.items ≡ or_else (owed_from c.args.owed.now 0 runner.slices)
     (asks_of runner.config c.args.programs.now runner.slices runner.places ++ deliveries_of runner.slices)) c.self.view_is
@@ -18,7 +18,7 @@ returns-then-not-is_none-clause-moves g c =
     ∙ sym (or_else_some _ _ (λ none. some (c.in_ok-list_owed.ensures.moves ∙ none))))
 
 pub returns-clause-moves : goal.returns-clause-moves
-returns-clause-moves g c =
+returns-clause-moves c =
     let none : c.list_owed.new.moves.items ≡ [] = search rules in
     let owed = sym c.in_ok-list_owed.ensures.moves ∙ none in
     on_ok_weaker c.list_moves.result

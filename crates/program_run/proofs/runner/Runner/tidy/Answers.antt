@@ -4,5 +4,5 @@ use Rattle.program_run.specs.Run.{RunnerView}
 use Rattle.program_run.proofs.runner.Runner.tidy.Goals as goal
 
 pub tidy-requires : goal.tidy-requires
-tidy-requires g c =
+tidy-requires c =
     subst (λ (runner : RunnerView). Knows runner.config runner.slices c.args.kept.now) (sym c.self.view_is) c.requires

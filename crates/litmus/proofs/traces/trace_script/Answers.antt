@@ -4,7 +4,7 @@ use Rattle.litmus_script.proofs.PlayLemmas.{all_shown, up_to_shown}
 use Rattle.litmus_script.specs.Prints.{IsPrinted}
 use Rattle.litmus_script.specs.Script.{Plainly}
 use Rattle.litmus.proofs.Played.{played-on, stopped-on}
-use Rattle.litmus.proofs.traces.trace_on.Goals as goal
+use Rattle.litmus.proofs.traces.trace_script.Goals as goal
 
 pub returns-in-Ok-clause-traced : goal.returns-in-Ok-clause-traced
 returns-in-Ok-clause-traced g c =

@@ -3,7 +3,7 @@ use Rattle.litmus_script.proofs.PlayLemmas.{all_shown}
 use Rattle.litmus_script.specs.Script.{Echoed}
 use Rattle.script_explained.proofs.StepLemmas.{played_from}
 use Rattle.script_explained.specs.Explains.{Explainingly}
-use Rattle.script_prompt.proofs.kinds.play_on.Goals as goal
+use Rattle.script_prompt.proofs.session.play_on.Goals as goal
 
 pub returns-clause-config : goal.returns-clause-config
 returns-clause-config g c =

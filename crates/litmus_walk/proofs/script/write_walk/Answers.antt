@@ -2,7 +2,7 @@ use Rattle.std.proofs.Common.{◌≡◌, ◌∙◌, arith, refl, sym}
 use Rattle.litmus_walk.specs.Script.{status_of}
 use Rattle.litmus_walk.specs.declared.round.End.{End}
 use Rattle.litmus_walk.specs.declared.round.End.TheVariants as ends
-use Rattle.litmus_walk.proofs.script.write_on.Goals as goal
+use Rattle.litmus_walk.proofs.script.write_walk.Goals as goal
 
 -- status 0 is that of a walk that is over
 over_of : (end : End) → status_of end ≡ 0 → end ≡ ends.Over

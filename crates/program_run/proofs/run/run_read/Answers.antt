@@ -1,6 +1,7 @@
 use Rattle.std.proofs.Common.{◌≡◌, ◌∙◌, true}
+use Rattle.mshr_file.specs.Miss.{bound_of}
 use Rattle.program_run.proofs.RunLemmas.{programs_run, prints_over, prints_stuck}
-use Rattle.program_run.proofs.run.run_on.Goals as goal
+use Rattle.program_run.proofs.run.run_read.Goals as goal
 
 pub returns-then-is_over-clause-done : goal.returns-then-is_over-clause-done
 returns-then-is_over-clause-done g c =
@@ -10,7 +11,7 @@ returns-then-is_over-clause-done g c =
     let usages = rw same at c.in_ok-usages.ensures in
     let printed = rw (c.tally.ensures, c.as_slice.ensures.value, usages) at
     c.in_ok-print_report.ensures.printed in
-    programs_run (g.F.MissFile.bound_by config) programs c.args.form c.args.seed 0 c.in_ok-runner.runner
+    programs_run (bound_of programs.misses config) programs c.args.form c.args.seed 0 c.in_ok-runner.runner
     c.run.new.runner _ _ c.in_ok-runner.ensures c.in_ok-run.ensures
     (λ history seen.
     prints_over config programs c.args.form c.args.seed c.run.new.runner _ _ history
@@ -20,7 +21,7 @@ pub returns-clause-done : goal.returns-clause-done
 returns-clause-done g c =
     let config = c.args.programs.now.config in
     let programs = c.args.programs.now in
-    programs_run (g.F.MissFile.bound_by config) programs c.args.form c.args.seed 1 c.in_ok-runner.runner
+    programs_run (bound_of programs.misses config) programs c.args.form c.args.seed 1 c.in_ok-runner.runner
     c.run.new.runner _ _ c.in_ok-runner.ensures c.in_ok-run.ensures
     (λ history seen.
     prints_stuck config programs c.args.form c.args.seed c.run.new.runner _ _ history

@@ -1,8 +1,8 @@
 use Rattle.std.proofs.Common.{inr}
-use Rattle.script_coverage.proofs.run.trail_on.Goals as goal
+use Rattle.script_coverage.proofs.run.trail_of.Goals as goal
 
 pub returns : goal.returns
-returns g c =
+returns c =
     let stopped = rw (c.in_ok-machine.ensures.config, c.new-trail.ensures.items) at c.in-Err.ensures.fault in
     record {
       played = tt;

@@ -1,7 +1,11 @@
 //! Tells what was found, as text for a terminal.
 
 use super::found::{blocked_by_change, deliveries_to, is_changed, joined_row};
+use super::line::Line;
+use super::promise::Promise;
+use super::search::Tried;
 use super::state_text::write_state;
+use super::step::{Met, Step};
 use super::words::{
     name_of_forwarded, name_of_promise, write_cache_cell, write_data_kind, write_directory_row,
     write_entry, write_event, write_row,
@@ -13,7 +17,6 @@ use protocol_rows::CacheCase;
 use std::alloc::Global;
 use std::fmt;
 use std::fmt::Write;
-use what_if::{Line, Met, Promise, Step, Tried};
 
 /// What is told: the steps of a run and the promise that they break, or what was tried in vain.
 #[derive(Clone, Copy)]

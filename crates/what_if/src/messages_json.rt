@@ -1,10 +1,10 @@
 //! The messages on their way, as JSON.
 
+use super::line::{CoreSide, Forwarded, Line};
 use super::words::{name_of_forwarded, name_of_request, write_data_kind};
 use address_map::CoreId;
 use std::fmt;
 use std::fmt::Write;
-use what_if::{CoreSide, Forwarded, Line};
 
 /// Writes the messages of all channels: each names its core, or the directory.
 pub(crate) fn write_messages<W: Write>(line: &Line, out: &mut W) -> fmt::Result {

@@ -1,12 +1,13 @@
 //! What is told of a step besides its row: whether the row is ours, what a write does that has joined, and which messages
 //! a changed cell doesn't take.
 
+use super::line::Line;
+use super::step::{Met, Step};
 use address_map::{Block, CoreId};
 use cache_table::{CopyState, Row};
 use changed_tables::Tables;
 use directory_table::{DirEntry, DirEvent, DirRow, dir_row};
 use protocol_rows::{CacheCase, cache_rule};
-use what_if::{Line, Met, Step};
 
 /// Whether our table has another row at the cell.
 pub fn is_changed(tables: &Tables, line: &Line, met: &Met) -> bool {

@@ -1,7 +1,10 @@
 //! Tells what was found, as JSON.
 
 use super::found::{blocked_by_change, deliveries_to, is_changed, joined_row};
+use super::line::{CoreSide, Line};
 use super::messages_json::write_messages;
+use super::search::Tried;
+use super::step::{Met, Step};
 use super::telling::Told;
 use super::words::{
     name_of_case, name_of_promise, write_cores, write_directory_row, write_entry, write_event,
@@ -13,7 +16,6 @@ use protocol_rows::CacheCase;
 use std::alloc::Global;
 use std::fmt;
 use std::fmt::Write;
-use what_if::{CoreSide, Line, Met, Step, Tried};
 
 /// Writes what was found as one object: the promise that broke, the steps and what they lead to, or how much was
 /// tried.

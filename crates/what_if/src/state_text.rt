@@ -1,11 +1,11 @@
 //! A line as text: the copies, the directory, and the messages on their way.
 
+use super::line::{CoreSide, Forwarded, Line};
 use super::words::{name_of_forwarded, name_of_request, write_data_kind, write_entry};
 use address_map::{CoreId, CoreSet};
 use cache_table::CopyState;
 use std::fmt;
 use std::fmt::Write;
-use what_if::{CoreSide, Forwarded, Line};
 
 /// Writes a line for each core, one for the directory, and one for each message.
 pub(crate) fn write_state<W: Write>(line: &Line, out: &mut W) -> fmt::Result {

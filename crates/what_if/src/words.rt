@@ -1,5 +1,7 @@
 //! The names under which steps, cells and promises are told.
 
+use super::line::{DataKind, ForwardedKind, RequestKind};
+use super::promise::Promise;
 use address_map::CoreSet;
 use cache_table::{CopyState, Row};
 use directory_table::{DirEvent, DirRow, DirSends, DirState};
@@ -7,7 +9,6 @@ use protocol_rows::{CacheCase, Counted, sample_of};
 use protocol_tables::{text_of_effect, text_of_home};
 use std::fmt;
 use std::fmt::Write;
-use what_if::{DataKind, ForwardedKind, Promise, RequestKind};
 
 /// A promise, as it is told.
 pub const fn name_of_promise(promise: Promise) -> &'static str {

@@ -1,2 +1,4 @@
 pub mod Cache
+pub mod CacheRows
 pub mod Directory
+pub mod DirectoryRows

@@ -5,7 +5,7 @@ ghost use Rattle.std.specs.Fmt.{WritesInCalls};
 ghost use Rattle.table_json.specs.Cache.{cells_at, cells_of, line_of, lines_of, none_of, said_of, state_lines, waits_of};
 
 use cache_table::{CacheSends, CopyState, Row};
-use protocol_rows::{CacheCase, Counted, accesses, cache_rule, messages, states};
+use protocol_tables::{CacheCase, Counted, accesses, cache_rule, messages, states};
 use std::fmt;
 use std::fmt::Write;
 

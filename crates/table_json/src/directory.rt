@@ -4,7 +4,7 @@ ghost use Rattle.std.specs.Prelude.{◌≡◌, OnOk};
 ghost use Rattle.std.specs.Fmt.{WritesInCalls};
 ghost use Rattle.table_json.specs.Directory.{cells_of, entry_lines, line_of, lines_of, said_of};
 
-use protocol_rows::{
+use protocol_tables::{
     DirCase, DirMessage, DirRule, Entry, Owns, Shares, Sharing, dir_cases, directory_rule, entries,
 };
 use std::fmt;

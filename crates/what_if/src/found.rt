@@ -7,7 +7,7 @@ use address_map::{Block, CoreId};
 use cache_table::{CopyState, Row};
 use changed_tables::Tables;
 use directory_table::{DirEntry, DirEvent, DirRow, dir_row};
-use protocol_rows::{CacheCase, cache_rule};
+use protocol_tables::{CacheCase, cache_rule};
 
 /// Whether our table has another row at the cell.
 pub fn is_changed(tables: &Tables, line: &Line, met: &Met) -> bool {

@@ -13,7 +13,7 @@ use super::words::{
 use address_map::CoreId;
 use cache_table::CopyState;
 use changed_tables::Tables;
-use protocol_rows::CacheCase;
+use protocol_tables::CacheCase;
 use std::alloc::Global;
 use std::fmt;
 use std::fmt::Write;

@@ -12,7 +12,7 @@ use super::words::{
 };
 use address_map::CoreId;
 use changed_tables::Tables;
-use protocol_rows::CacheCase;
+use protocol_tables::CacheCase;
 use std::alloc::Global;
 use std::fmt;
 use std::fmt::Write;

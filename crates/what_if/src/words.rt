@@ -5,8 +5,7 @@ use super::promise::Promise;
 use address_map::CoreSet;
 use cache_table::{CopyState, Row};
 use directory_table::{DirEvent, DirRow, DirSends, DirState};
-use protocol_rows::{CacheCase, Counted, sample_of};
-use protocol_tables::{text_of_effect, text_of_home};
+use protocol_tables::{CacheCase, Counted, sample_of, text_of_effect, text_of_home};
 use std::fmt;
 use std::fmt::Write;
 

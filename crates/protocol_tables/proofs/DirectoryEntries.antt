@@ -7,13 +7,13 @@ use Rattle.address_map.proofs.CoreSets.{has-zero, some-from_has, without-missing
 use Rattle.directory_table.specs.Row.{cell, shared_by}
 use Rattle.directory_table.specs.declared.state.DirState.{DirState}
 use Rattle.directory_table.specs.declared.state.DirState.TheVariants as dir_states
-use Rattle.protocol_rows.specs.Directory.{IsEntry, IsSharing, event_of, meaning_of, rule_of, with_all, without_asker}
-use Rattle.protocol_rows.specs.declared.directory.DirCase.{DirCase}
-use Rattle.protocol_rows.specs.declared.directory.DirCase.TheVariants as cases
-use Rattle.protocol_rows.specs.declared.directory.Entry.{Entry}
-use Rattle.protocol_rows.specs.declared.directory.Entry.TheVariants as entries
-use Rattle.protocol_rows.specs.declared.directory.Sharing.{Sharing}
-use Rattle.protocol_rows.specs.declared.directory.Sharing.TheVariants as sharing
+use Rattle.protocol_tables.specs.DirectoryRows.{IsEntry, IsSharing, event_of, meaning_of, rule_of, with_all, without_asker}
+use Rattle.protocol_tables.specs.declared.directory_rows.DirCase.{DirCase}
+use Rattle.protocol_tables.specs.declared.directory_rows.DirCase.TheVariants as cases
+use Rattle.protocol_tables.specs.declared.directory_rows.Entry.{Entry}
+use Rattle.protocol_tables.specs.declared.directory_rows.Entry.TheVariants as entries
+use Rattle.protocol_tables.specs.declared.directory_rows.Sharing.{Sharing}
+use Rattle.protocol_tables.specs.declared.directory_rows.Sharing.TheVariants as sharing
 
 -- no core has left what no core was in
 none_without : (asker : ℕ) → without 0 asker ≡ 0

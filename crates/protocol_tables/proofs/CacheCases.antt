@@ -9,11 +9,11 @@ use Rattle.cache_table.specs.declared.row.CacheEvent.TheVariants as cache_events
 use Rattle.cache_table.specs.declared.row.CacheSends.TheVariants as cache_sends
 use Rattle.cache_table.specs.declared.row.Row.{Row}
 use Rattle.cache_table.specs.declared.row.Row.TheVariants as rows
-use Rattle.protocol_rows.specs.Cache.{Compares, IsCase, rule_of}
-use Rattle.protocol_rows.specs.declared.cache.CacheCase.{CacheCase}
-use Rattle.protocol_rows.specs.declared.cache.CacheCase.TheVariants as cases
-use Rattle.protocol_rows.specs.declared.cache.Counted.{Counted}
-use Rattle.protocol_rows.specs.declared.cache.Counted.TheVariants as counted
+use Rattle.protocol_tables.specs.CacheRows.{Compares, IsCase, rule_of}
+use Rattle.protocol_tables.specs.declared.cache_rows.CacheCase.{CacheCase}
+use Rattle.protocol_tables.specs.declared.cache_rows.CacheCase.TheVariants as cases
+use Rattle.protocol_tables.specs.declared.cache_rows.Counted.{Counted}
+use Rattle.protocol_tables.specs.declared.cache_rows.Counted.TheVariants as counted
 
 -- what a row by count is, by how the numbers compare
 abbrev row_at : Counted → CopyState → Row

@@ -1,5 +1,5 @@
-use Rattle.protocol_rows.proofs.DirectoryEntries.{means}
-use Rattle.protocol_rows.proofs.directory.directory_rule.Goals as goal
+use Rattle.protocol_tables.proofs.DirectoryEntries.{means}
+use Rattle.protocol_tables.proofs.directory_rows.directory_rule.Goals as goal
 
 pub returns-clause-each : goal.returns-clause-each
 returns-clause-each c = λ at asker is.

@@ -4,7 +4,7 @@ ghost use Rattle.std.specs.Prelude.{◌≡◌};
 ghost use Rattle.address_map.specs.declared.address.CoreId.{CoreId};
 ghost use Rattle.directory_table.specs.Row.{row_of};
 ghost use Rattle.directory_table.specs.declared.state.DirEntry.{DirEntry};
-ghost use Rattle.protocol_rows.specs.Directory.{IsEntry, all_cases, all_entries, event_of, goes, goes_home, meaning_of, rule_of, with_all, without_asker};
+ghost use Rattle.protocol_tables.specs.DirectoryRows.{IsEntry, all_cases, all_entries, event_of, goes, goes_home, meaning_of, rule_of, with_all, without_asker};
 
 use directory_table::DirState;
 

@@ -6,10 +6,10 @@ use Rattle.cache_table.specs.declared.state.CopyState.TheVariants as copy_states
 use Rattle.cache_table.specs.declared.row.CacheEvent.{CacheEvent}
 use Rattle.cache_table.specs.declared.row.CacheEvent.TheVariants as cache_events
 use Rattle.cache_table.specs.declared.row.Row.{Row}
-use Rattle.protocol_rows.specs.declared.cache.CacheCase.{CacheCase}
-use Rattle.protocol_rows.specs.declared.cache.CacheCase.TheVariants as cases
-use Rattle.protocol_rows.specs.declared.cache.Counted.{Counted}
-use Rattle.protocol_rows.specs.declared.cache.Counted.TheVariants as counted
+use Rattle.protocol_tables.specs.declared.cache_rows.CacheCase.{CacheCase}
+use Rattle.protocol_tables.specs.declared.cache_rows.CacheCase.TheVariants as cases
+use Rattle.protocol_tables.specs.declared.cache_rows.Counted.{Counted}
+use Rattle.protocol_tables.specs.declared.cache_rows.Counted.TheVariants as counted
 
 -- how k, the acknowledgements that have come, compares with n
 abbrev pub Compares : Counted → (k n : ℕ) → Type 0

@@ -3,7 +3,7 @@
 ghost use Rattle.std.specs.Prelude.{◌≡◌};
 ghost use Rattle.cache_table.specs.Row.{row_of};
 ghost use Rattle.cache_table.specs.declared.row.CacheEvent.{CacheEvent};
-ghost use Rattle.protocol_rows.specs.Cache.{IsCase, accesses, messages_of, rule_of, sample_of, states_of};
+ghost use Rattle.protocol_tables.specs.CacheRows.{IsCase, accesses, messages_of, rule_of, sample_of, states_of};
 
 use cache_table::{CacheEvent, CopyState, Row, cache_row};
 

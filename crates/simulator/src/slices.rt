@@ -24,7 +24,7 @@ use arrayvec::ArrayVec;
 use litmus_script::{Issued, Machine};
 use litmus_text::{Command, TextFault};
 use mshr_file::{MissFile, Target};
-use protocol_coverage::Cell;
+use script_coverage::Cell;
 use slice_core::{
     CacheCopy, Class, CoreLines, Decision, Delivered, DeliveredNext, Message, Pick, Plan, Stats,
 };

@@ -6,10 +6,10 @@ use Rattle.cache_table.specs.declared.state.CopyState.TheVariants as copy_states
 use Rattle.cache_table.specs.declared.row.CacheSends.{CacheSends}
 use Rattle.cache_table.specs.declared.row.CacheSends.TheVariants as cache_sends
 use Rattle.cache_table.specs.declared.row.Row.TheVariants as rows
-use Rattle.protocol_rows.specs.Cache.{states_of}
-use Rattle.protocol_rows.specs.declared.cache.CacheCase.{CacheCase}
-use Rattle.protocol_rows.specs.declared.cache.CacheCase.TheVariants as cases
-use Rattle.protocol_rows.specs.declared.cache.Counted.TheVariants as counted
+use Rattle.protocol_tables.specs.CacheRows.{states_of}
+use Rattle.protocol_tables.specs.declared.cache_rows.CacheCase.{CacheCase}
+use Rattle.protocol_tables.specs.declared.cache_rows.CacheCase.TheVariants as cases
+use Rattle.protocol_tables.specs.declared.cache_rows.Counted.TheVariants as counted
 use Rattle.changed_tables.specs.CacheText.{NoneSays, row_text, sends_at}
 
 -- every state stands in the list

@@ -2,15 +2,15 @@
 use Rattle.std.proofs.Common.{arith, ◌≡◌, ℕ, ◌+◌, ◌*◌, ◌/◌, ◌%◌, ◌<◌, ◌==◌, Bool, true, false, get_or, lit<, refl, slice_index_or, subst}
 use Rattle.directory_table.specs.declared.state.DirState.{DirState}
 use Rattle.directory_table.specs.declared.state.DirState.TheVariants as dir_states
-use Rattle.protocol_rows.specs.declared.directory.DirEffect.{DirEffect}
-use Rattle.protocol_rows.specs.declared.directory.DirMessage.{DirMessage}
-use Rattle.protocol_rows.specs.declared.directory.DirMessage.TheVariants as messages
-use Rattle.protocol_rows.specs.declared.directory.DirRule.{DirRule}
-use Rattle.protocol_rows.specs.declared.directory.DirRule.TheVariants as rules
-use Rattle.protocol_rows.specs.declared.directory.Owns.{Owns}
-use Rattle.protocol_rows.specs.declared.directory.Owns.TheVariants as owns
-use Rattle.protocol_rows.specs.declared.directory.Shares.{Shares}
-use Rattle.protocol_rows.specs.declared.directory.Shares.TheVariants as shares
+use Rattle.protocol_tables.specs.declared.directory_rows.DirEffect.{DirEffect}
+use Rattle.protocol_tables.specs.declared.directory_rows.DirMessage.{DirMessage}
+use Rattle.protocol_tables.specs.declared.directory_rows.DirMessage.TheVariants as messages
+use Rattle.protocol_tables.specs.declared.directory_rows.DirRule.{DirRule}
+use Rattle.protocol_tables.specs.declared.directory_rows.DirRule.TheVariants as rules
+use Rattle.protocol_tables.specs.declared.directory_rows.Owns.{Owns}
+use Rattle.protocol_tables.specs.declared.directory_rows.Owns.TheVariants as owns
+use Rattle.protocol_tables.specs.declared.directory_rows.Shares.{Shares}
+use Rattle.protocol_tables.specs.declared.directory_rows.Shares.TheVariants as shares
 use Rattle.changed_tables.specs.Effects.{all_messages, all_owns, all_shares, all_states, effect_at}
 
 -- its place in a list

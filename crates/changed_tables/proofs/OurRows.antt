@@ -6,13 +6,13 @@ use Rattle.directory_table.specs.declared.state.DirState.{DirState}
 use Rattle.directory_table.specs.declared.state.DirState.TheVariants as dir_states
 use Rattle.directory_table.specs.declared.row.DirEvent.{DirEvent}
 use Rattle.directory_table.specs.declared.row.DirEvent.TheVariants as dir_events
-use Rattle.protocol_rows.proofs.DirectoryEntries.{means}
-use Rattle.protocol_rows.specs.Directory.{IsEntry, event_of}
-use Rattle.protocol_rows.specs.declared.directory.DirCase.{DirCase}
-use Rattle.protocol_rows.specs.declared.directory.DirCase.TheVariants as cases
-use Rattle.protocol_rows.specs.declared.directory.Entry.{Entry}
-use Rattle.protocol_rows.specs.declared.directory.Entry.TheVariants as entries
-use Rattle.protocol_rows.specs.declared.directory.Sharing.TheVariants as sharing
+use Rattle.protocol_tables.proofs.DirectoryEntries.{means}
+use Rattle.protocol_tables.specs.DirectoryRows.{IsEntry, event_of}
+use Rattle.protocol_tables.specs.declared.directory_rows.DirCase.{DirCase}
+use Rattle.protocol_tables.specs.declared.directory_rows.DirCase.TheVariants as cases
+use Rattle.protocol_tables.specs.declared.directory_rows.Entry.{Entry}
+use Rattle.protocol_tables.specs.declared.directory_rows.Entry.TheVariants as entries
+use Rattle.protocol_tables.specs.declared.directory_rows.Sharing.TheVariants as sharing
 use Rattle.changed_tables.specs.Directory.{does_at, entry_seen, no_asker, row_at, shared_entry, sharing_of_others}
 use Rattle.changed_tables.proofs.SeenEntries.{is_seen}
 

@@ -6,10 +6,10 @@ use Rattle.address_map.specs.CoreSet.{has, without}
 use Rattle.address_map.proofs.CoreSets.{without-missing}
 use Rattle.directory_table.specs.declared.state.DirState.{DirState}
 use Rattle.directory_table.specs.declared.state.DirState.TheVariants as dir_states
-use Rattle.protocol_rows.specs.Directory.{IsEntry, IsSharing}
-use Rattle.protocol_rows.specs.declared.directory.Entry.TheVariants as entries
-use Rattle.protocol_rows.specs.declared.directory.Sharing.{Sharing}
-use Rattle.protocol_rows.specs.declared.directory.Sharing.TheVariants as sharing
+use Rattle.protocol_tables.specs.DirectoryRows.{IsEntry, IsSharing}
+use Rattle.protocol_tables.specs.declared.directory_rows.Entry.TheVariants as entries
+use Rattle.protocol_tables.specs.declared.directory_rows.Sharing.{Sharing}
+use Rattle.protocol_tables.specs.declared.directory_rows.Sharing.TheVariants as sharing
 use Rattle.changed_tables.specs.Directory.{entry_seen, shared_entry, sharing_of}
 
 -- who shares the line, by what the tests say

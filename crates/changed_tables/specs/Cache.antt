@@ -2,8 +2,8 @@
 use Rattle.std.specs.Prelude.{◌==◌, ◌&&◌, Bool, List, [], ◌∷◌, if◌then◌else◌}
 use Rattle.cache_table.specs.declared.state.CopyState.{CopyState}
 use Rattle.cache_table.specs.declared.row.Row.{Row}
-use Rattle.protocol_rows.specs.Cache.{rule_of}
-use Rattle.protocol_rows.specs.declared.cache.CacheCase.{CacheCase}
+use Rattle.protocol_tables.specs.CacheRows.{rule_of}
+use Rattle.protocol_tables.specs.declared.cache_rows.CacheCase.{CacheCase}
 use Rattle.changed_tables.specs.Numbers.{case_number, state_number}
 use Rattle.changed_tables.specs.declared.tables.CacheChange.{CacheChange}
 

@@ -7,11 +7,11 @@ use Rattle.cache_table.specs.declared.row.CacheSends.{CacheSends}
 use Rattle.cache_table.specs.declared.row.CacheSends.TheVariants as cache_sends
 use Rattle.cache_table.specs.declared.row.Row.{Row}
 use Rattle.cache_table.specs.declared.row.Row.TheVariants as rows
-use Rattle.protocol_rows.specs.Cache.{sample_of}
-use Rattle.protocol_rows.specs.declared.cache.CacheCase.{CacheCase}
-use Rattle.protocol_rows.specs.declared.cache.CacheCase.TheVariants as cases
-use Rattle.protocol_rows.specs.declared.cache.Counted.TheVariants as counted
 use Rattle.protocol_tables.specs.Cache.{before_the_table, text_of_cell, text_of_row}
+use Rattle.protocol_tables.specs.CacheRows.{sample_of}
+use Rattle.protocol_tables.specs.declared.cache_rows.CacheCase.{CacheCase}
+use Rattle.protocol_tables.specs.declared.cache_rows.CacheCase.TheVariants as cases
+use Rattle.protocol_tables.specs.declared.cache_rows.Counted.TheVariants as counted
 use Rattle.changed_tables.specs.Cache.{is_at}
 use Rattle.changed_tables.specs.Layout.{Cell}
 use Rattle.changed_tables.specs.declared.tables.CacheChange.{CacheChange}

@@ -7,14 +7,14 @@ use Rattle.directory_table.specs.declared.state.DirState.TheVariants as dir_stat
 use Rattle.directory_table.specs.declared.row.DirEvent.{DirEvent}
 use Rattle.directory_table.specs.declared.row.DirEvent.TheVariants as dir_events
 use Rattle.directory_table.specs.declared.row.DirRow.{DirRow}
-use Rattle.protocol_rows.specs.Directory.{meaning_of, rule_of}
-use Rattle.protocol_rows.specs.declared.directory.DirCase.{DirCase}
-use Rattle.protocol_rows.specs.declared.directory.DirCase.TheVariants as cases
-use Rattle.protocol_rows.specs.declared.directory.DirRule.{DirRule}
-use Rattle.protocol_rows.specs.declared.directory.Entry.{Entry}
-use Rattle.protocol_rows.specs.declared.directory.Entry.TheVariants as entries
-use Rattle.protocol_rows.specs.declared.directory.Sharing.{Sharing}
-use Rattle.protocol_rows.specs.declared.directory.Sharing.TheVariants as sharing
+use Rattle.protocol_tables.specs.DirectoryRows.{meaning_of, rule_of}
+use Rattle.protocol_tables.specs.declared.directory_rows.DirCase.{DirCase}
+use Rattle.protocol_tables.specs.declared.directory_rows.DirCase.TheVariants as cases
+use Rattle.protocol_tables.specs.declared.directory_rows.DirRule.{DirRule}
+use Rattle.protocol_tables.specs.declared.directory_rows.Entry.{Entry}
+use Rattle.protocol_tables.specs.declared.directory_rows.Entry.TheVariants as entries
+use Rattle.protocol_tables.specs.declared.directory_rows.Sharing.{Sharing}
+use Rattle.protocol_tables.specs.declared.directory_rows.Sharing.TheVariants as sharing
 use Rattle.changed_tables.specs.Numbers.{dir_case_number, entry_number}
 use Rattle.changed_tables.specs.declared.tables.DirectoryChange.{DirectoryChange}
 

@@ -7,22 +7,22 @@ use Rattle.address_map.specs.declared.address.CoreId.{CoreId}
 use Rattle.directory_table.specs.declared.state.DirState.TheVariants as dir_states
 use Rattle.directory_table.specs.declared.row.DirRow.{DirRow}
 use Rattle.directory_table.specs.declared.row.DirRow.TheVariants as dir_rows
-use Rattle.protocol_rows.specs.Directory.{meaning_of, rule_of}
-use Rattle.protocol_rows.specs.declared.directory.DirCase.{DirCase}
-use Rattle.protocol_rows.specs.declared.directory.DirCase.TheVariants as cases
-use Rattle.protocol_rows.specs.declared.directory.DirMessage.{DirMessage}
-use Rattle.protocol_rows.specs.declared.directory.DirMessage.TheVariants as messages
-use Rattle.protocol_rows.specs.declared.directory.DirRule.{DirRule}
-use Rattle.protocol_rows.specs.declared.directory.DirRule.TheVariants as rules
-use Rattle.protocol_rows.specs.declared.directory.Entry.{Entry}
-use Rattle.protocol_rows.specs.declared.directory.Entry.TheVariants as entries
-use Rattle.protocol_rows.specs.declared.directory.Owns.{Owns}
-use Rattle.protocol_rows.specs.declared.directory.Owns.TheVariants as owns
-use Rattle.protocol_rows.specs.declared.directory.Shares.{Shares}
-use Rattle.protocol_rows.specs.declared.directory.Shares.TheVariants as shares
-use Rattle.protocol_rows.specs.declared.directory.Sharing.TheVariants as sharing
 use Rattle.protocol_tables.specs.Directory.{idle, o, owned_entry, r, shared_entry, text_of_entry, text_of_row, x}
+use Rattle.protocol_tables.specs.DirectoryRows.{meaning_of, rule_of}
 use Rattle.protocol_tables.specs.declared.directory.Holders.{Holders}
+use Rattle.protocol_tables.specs.declared.directory_rows.DirCase.{DirCase}
+use Rattle.protocol_tables.specs.declared.directory_rows.DirCase.TheVariants as cases
+use Rattle.protocol_tables.specs.declared.directory_rows.DirMessage.{DirMessage}
+use Rattle.protocol_tables.specs.declared.directory_rows.DirMessage.TheVariants as messages
+use Rattle.protocol_tables.specs.declared.directory_rows.DirRule.{DirRule}
+use Rattle.protocol_tables.specs.declared.directory_rows.DirRule.TheVariants as rules
+use Rattle.protocol_tables.specs.declared.directory_rows.Entry.{Entry}
+use Rattle.protocol_tables.specs.declared.directory_rows.Entry.TheVariants as entries
+use Rattle.protocol_tables.specs.declared.directory_rows.Owns.{Owns}
+use Rattle.protocol_tables.specs.declared.directory_rows.Owns.TheVariants as owns
+use Rattle.protocol_tables.specs.declared.directory_rows.Shares.{Shares}
+use Rattle.protocol_tables.specs.declared.directory_rows.Shares.TheVariants as shares
+use Rattle.protocol_tables.specs.declared.directory_rows.Sharing.TheVariants as sharing
 use Rattle.changed_tables.specs.Directory.{is_at}
 use Rattle.changed_tables.specs.Layout.{Cell}
 use Rattle.changed_tables.specs.declared.fault.TableFault.{TableFault}

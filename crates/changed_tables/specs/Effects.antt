@@ -2,13 +2,13 @@
 use Rattle.std.specs.Prelude.{ℕ, ◌/◌, ◌%◌, ◌==◌, List, [], ◌∷◌, slice_index_or}
 use Rattle.directory_table.specs.declared.state.DirState.{DirState}
 use Rattle.directory_table.specs.declared.state.DirState.TheVariants as dir_states
-use Rattle.protocol_rows.specs.declared.directory.DirEffect.{DirEffect}
-use Rattle.protocol_rows.specs.declared.directory.DirMessage.{DirMessage}
-use Rattle.protocol_rows.specs.declared.directory.DirMessage.TheVariants as messages
-use Rattle.protocol_rows.specs.declared.directory.Owns.{Owns}
-use Rattle.protocol_rows.specs.declared.directory.Owns.TheVariants as owns
-use Rattle.protocol_rows.specs.declared.directory.Shares.{Shares}
-use Rattle.protocol_rows.specs.declared.directory.Shares.TheVariants as shares
+use Rattle.protocol_tables.specs.declared.directory_rows.DirEffect.{DirEffect}
+use Rattle.protocol_tables.specs.declared.directory_rows.DirMessage.{DirMessage}
+use Rattle.protocol_tables.specs.declared.directory_rows.DirMessage.TheVariants as messages
+use Rattle.protocol_tables.specs.declared.directory_rows.Owns.{Owns}
+use Rattle.protocol_tables.specs.declared.directory_rows.Owns.TheVariants as owns
+use Rattle.protocol_tables.specs.declared.directory_rows.Shares.{Shares}
+use Rattle.protocol_tables.specs.declared.directory_rows.Shares.TheVariants as shares
 
 abbrev pub all_messages : List DirMessage
 all_messages =

@@ -2,15 +2,15 @@
 use Rattle.std.specs.Prelude.{ℕ, ◌+◌, true, false}
 use Rattle.cache_table.specs.declared.state.CopyState.{CopyState}
 use Rattle.cache_table.specs.declared.state.CopyState.TheVariants as copy_states
-use Rattle.protocol_rows.specs.declared.cache.CacheCase.{CacheCase}
-use Rattle.protocol_rows.specs.declared.cache.CacheCase.TheVariants as cases
-use Rattle.protocol_rows.specs.declared.cache.Counted.TheVariants as counted
-use Rattle.protocol_rows.specs.declared.directory.DirCase.{DirCase}
-use Rattle.protocol_rows.specs.declared.directory.DirCase.TheVariants as dir_cases
-use Rattle.protocol_rows.specs.declared.directory.Entry.{Entry}
-use Rattle.protocol_rows.specs.declared.directory.Entry.TheVariants as entries
-use Rattle.protocol_rows.specs.declared.directory.Sharing.{Sharing}
-use Rattle.protocol_rows.specs.declared.directory.Sharing.TheVariants as sharing
+use Rattle.protocol_tables.specs.declared.cache_rows.CacheCase.{CacheCase}
+use Rattle.protocol_tables.specs.declared.cache_rows.CacheCase.TheVariants as cases
+use Rattle.protocol_tables.specs.declared.cache_rows.Counted.TheVariants as counted
+use Rattle.protocol_tables.specs.declared.directory_rows.DirCase.{DirCase}
+use Rattle.protocol_tables.specs.declared.directory_rows.DirCase.TheVariants as dir_cases
+use Rattle.protocol_tables.specs.declared.directory_rows.Entry.{Entry}
+use Rattle.protocol_tables.specs.declared.directory_rows.Entry.TheVariants as entries
+use Rattle.protocol_tables.specs.declared.directory_rows.Sharing.{Sharing}
+use Rattle.protocol_tables.specs.declared.directory_rows.Sharing.TheVariants as sharing
 
 abbrev pub state_number : CopyState → ℕ
 state_number copy_states.I = 0

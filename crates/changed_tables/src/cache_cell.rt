@@ -7,7 +7,7 @@ ghost use Rattle.changed_tables.specs.CacheText.{IsReadAs, IsRefused, IsSaid, No
 use super::cache_text::{before_the_table, is_ours, name_of, says};
 use super::fault::CellFault;
 use cache_table::{CacheSends, CopyState, Row};
-use protocol_rows::{CacheCase, sample_of, states};
+use protocol_tables::{CacheCase, sample_of, states};
 
 static SENDS: [CacheSends; 8] = [
     CacheSends::Nothing,

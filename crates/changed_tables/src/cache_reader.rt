@@ -12,7 +12,7 @@ use super::layout::{Written, add, at, cells_in};
 use super::tables::CacheChange;
 use super::word::is_joined;
 use cache_table::CopyState;
-use protocol_rows::{CacheCase, accesses, messages, states};
+use protocol_tables::{CacheCase, accesses, messages, states};
 use std::alloc::Global;
 
 /// Reads what `lockup table cache` prints, with any change of its cells, and returns the changes. Lines and columns may

@@ -3,14 +3,13 @@
 ghost use Rattle.std.specs.Prelude.{◌≡◌, ◌++◌, ◌↔◌, IsTrue};
 ghost use Rattle.std.specs.Option.{option_map};
 ghost use Rattle.cache_table.specs.Name.{name_of};
-ghost use Rattle.protocol_rows.specs.Cache.{sample_of};
 ghost use Rattle.protocol_tables.specs.Cache.{before_the_table, needs_exclusive, text_of_none};
+ghost use Rattle.protocol_tables.specs.CacheRows.{sample_of};
 ghost use Rattle.changed_tables.specs.CacheText.{our_text, row_text, title_of};
 
 use super::word::is_joined;
 use cache_table::{CacheEvent, CopyState, Row};
-use protocol_rows::{CacheCase, Counted, cache_rule, sample_of};
-use protocol_tables::text_of_effect;
+use protocol_tables::{CacheCase, Counted, cache_rule, sample_of, text_of_effect};
 
 /// The title of a column.
 pub(crate) const fn title_of(case: CacheCase) -> &'static str

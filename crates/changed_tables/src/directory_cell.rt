@@ -8,7 +8,9 @@ use super::directory_text::{is_asked_at, is_rule_for, is_whole, row_at_sample, s
 use super::fault::{CellFault, TableFault};
 use super::layout::{Written, at};
 use directory_table::DirState;
-use protocol_rows::{DirCase, DirEffect, DirMessage, DirRule, Entry, Owns, Shares, directory_rule};
+use protocol_tables::{
+    DirCase, DirEffect, DirMessage, DirRule, Entry, Owns, Shares, directory_rule,
+};
 use std::alloc::{AllocError, Global};
 
 static MESSAGES: [DirMessage; 7] = [

@@ -11,7 +11,7 @@ use super::fault::{CellFault, TableFault};
 use super::layout::{Written, add, at, cells_in};
 use super::tables::DirectoryChange;
 use super::word::is_joined;
-use protocol_rows::{DirCase, Entry, dir_cases, directory_rule, entries};
+use protocol_tables::{DirCase, Entry, dir_cases, directory_rule, entries};
 use std::alloc::{AllocError, Global};
 
 /// Reads what `lockup table directory` prints, with any change of its cells, and returns the changes. Lines and columns

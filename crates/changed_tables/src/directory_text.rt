@@ -9,8 +9,7 @@ use super::meaning::meaning_of;
 use super::row_text::RowText;
 use address_map::{CoreId, CoreSet};
 use directory_table::{DirRow, DirState};
-use protocol_rows::{DirCase, DirMessage, DirRule, Entry, Owns, Shares, Sharing};
-use protocol_tables::Holders;
+use protocol_tables::{DirCase, DirMessage, DirRule, Entry, Holders, Owns, Shares, Sharing};
 use std::alloc::{AllocError, Global};
 
 const O: CoreId = CoreId(0);

@@ -1,11 +1,11 @@
 //! What a directory's rule does at an entry, with its owner and its sharers.
 
 ghost use Rattle.std.specs.Prelude.{◌≡◌};
-ghost use Rattle.protocol_rows.specs.Directory.{meaning_of, owner_after, pair_of, sends_of, sharers_after};
+ghost use Rattle.protocol_tables.specs.DirectoryRows.{meaning_of, owner_after, pair_of, sends_of, sharers_after};
 
 use address_map::{CoreId, CoreSet};
 use directory_table::{DirRow, DirSends, DirStep};
-use protocol_rows::{DirMessage, DirRule, Owns, Shares};
+use protocol_tables::{DirMessage, DirRule, Owns, Shares};
 
 /// Returns what the rule does where this core asks.
 pub(crate) fn meaning_of(

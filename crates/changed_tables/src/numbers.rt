@@ -4,7 +4,7 @@ ghost use Rattle.std.specs.Prelude.{◌≡◌};
 ghost use Rattle.changed_tables.specs.Numbers.{case_number, dir_case_number, entry_number, sharing_number, state_number};
 
 use cache_table::CopyState;
-use protocol_rows::{CacheCase, Counted, DirCase, Entry, Sharing};
+use protocol_tables::{CacheCase, Counted, DirCase, Entry, Sharing};
 
 pub(crate) const fn state_number(state: CopyState) -> u8
     ensures { result ≡ state_number state }

@@ -1,12 +1,12 @@
 //! What a core sees of a directory's entry.
 
 ghost use Rattle.std.specs.Prelude.{◌≡◌, IfSome};
-ghost use Rattle.protocol_rows.specs.Directory.{IsEntry};
+ghost use Rattle.protocol_tables.specs.DirectoryRows.{IsEntry};
 ghost use Rattle.changed_tables.specs.Directory.{entry_seen, entry_unasked, owned_entry, shared_entry, sharing_of, sharing_of_others};
 
 use address_map::{CoreId, CoreSet};
 use directory_table::DirState;
-use protocol_rows::{Entry, Sharing};
+use protocol_tables::{Entry, Sharing};
 
 /// Returns what the core sees of the entry, or None where the table has no such entry: in S a line has sharers, in M it
 /// has an owner, and elsewhere it has none.

@@ -11,7 +11,7 @@ use super::seen::{entry_seen, entry_unasked};
 use address_map::{CoreId, CoreSet};
 use cache_table::{CopyState, Row};
 use directory_table::{DirEvent, DirRow, DirState};
-use protocol_rows::{CacheCase, DirCase, DirRule, Entry, cache_rule, directory_rule};
+use protocol_tables::{CacheCase, DirCase, DirRule, Entry, cache_rule, directory_rule};
 use std::alloc::Global;
 
 /// A cell of the cache's table, with the row that is there in place of ours.

@@ -7,9 +7,9 @@ use Rattle.litmus_text.specs.Statement.{statements_from}
 use Rattle.litmus_text.specs.declared.fault.TextFault.{TextFault}
 use Rattle.litmus_walk.specs.Script.{PrintsWalk}
 use Rattle.mshr_file.specs.Miss.{Bound}
-use Rattle.protocol_coverage.specs.Counts.{listed, sums}
-use Rattle.protocol_coverage.specs.declared.cells.TheConstants.{CELLS}
+use Rattle.script_coverage.specs.Counts.{listed, sums}
 use Rattle.script_coverage.specs.Coverage.{IsCoverage, IsNotCovered}
+use Rattle.script_coverage.specs.declared.cells.TheConstants.{CELLS}
 
 -- These are the counts of a script. As a record it isn't unfolded, with all that a run is, where it is handed on.
 pub record HasCounts (script : List ℕ) (counts : List (Option ℕ)) : Type 0 where

@@ -4,9 +4,9 @@ use Rattle.litmus.specs.declared.legend.TheConstants.{CACHE, DIRECTORY}
 use Rattle.litmus_command_line.specs.declared.table.Table.{Table}
 use Rattle.litmus_command_line.specs.declared.table.Table.TheVariants as tables
 use Rattle.protocol_tables.specs.Cache.{table_of as cache_table}
+use Rattle.protocol_tables.specs.CacheJson.{cells_of as cache_cells}
 use Rattle.protocol_tables.specs.Directory.{table_of as directory_table}
-use Rattle.table_json.specs.Cache.{cells_of as cache_cells}
-use Rattle.table_json.specs.Directory.{cells_of as directory_cells}
+use Rattle.protocol_tables.specs.DirectoryJson.{cells_of as directory_cells}
 
 -- the text of a table, with what the exclusive state adds to it or without that, and after it what its words mean
 abbrev pub text_of_table : Table → Bool → List ℕ

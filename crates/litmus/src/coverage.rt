@@ -8,8 +8,7 @@ ghost use Rattle.litmus_walk.specs.Script.{PrintsWalk};
 
 use litmus_test::{LitmusTest, Progress};
 use litmus_text::TextFault;
-use protocol_coverage::Coverage;
-use script_coverage::{coverage_of, print_coverage};
+use script_coverage::{Coverage, coverage_of, print_coverage};
 use std::alloc::Global;
 use std::io::Write;
 

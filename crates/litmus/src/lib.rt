@@ -54,8 +54,7 @@ pub use program_sweep::{
     RowFault, RowForm, Seeds, Setting, Sweep, SweepFault, program_name, run_sweep,
 };
 pub use program_text::Limits;
-pub use protocol_coverage::{Coverage, Unread};
-pub use script_coverage::{print_coverage, run_coverage};
+pub use script_coverage::{Coverage, Unread, print_coverage, run_coverage};
 pub use script_explained::{run_beside, run_explained};
 pub use script_json::run_json;
 pub use script_page::run_page;

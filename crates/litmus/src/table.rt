@@ -8,10 +8,11 @@ use super::legend;
 use litmus_command_line::Table;
 use litmus_script::TextWriter;
 use litmus_text::TextFault;
-use protocol_tables::{write_cache_table, write_directory_table};
+use protocol_tables::{
+    write_cache_cells, write_cache_table, write_directory_cells, write_directory_table,
+};
 use std::fmt;
 use std::io::Write;
-use table_json::{write_cache_cells, write_directory_cells};
 
 /// Prints a table, with what the exclusive state adds to it or without that, and what its words mean. Returns the exit
 /// status.

@@ -8,8 +8,8 @@ use Rattle.lockup_c.specs.Named.{copy_named, pick_named, request_named}
 use Rattle.lockup_c.specs.declared.cells.Asked.{Asked}
 use Rattle.lockup_c.specs.declared.cells.Asked.TheVariants as askeds
 use Rattle.lockup_c.specs.declared.held.Held.{Held}
-use Rattle.protocol_coverage.specs.declared.cell.Cell.{Cell}
 use Rattle.script_coverage.specs.Trail.{IsNumberOf}
+use Rattle.script_coverage.specs.declared.table_cell.Cell.{Cell}
 use Rattle.simulator.specs.Cells.{MeetsCell}
 use Rattle.simulator.specs.Simulator.{config_of, slices_of}
 use Rattle.simulator.specs.declared.simulator.Simulator.{Simulator}

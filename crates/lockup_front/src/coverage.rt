@@ -4,8 +4,7 @@ use super::files::read;
 use super::people::{People, REFUSED, complain, report, show};
 use litmus_command_line::read_files;
 use litmus_text::TextFault;
-use protocol_coverage::Coverage;
-use script_coverage::print_coverage;
+use script_coverage::{Coverage, print_coverage};
 use std::io::{self, BufWriter, Write};
 use std::rt::Files;
 

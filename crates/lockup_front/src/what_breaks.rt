@@ -17,8 +17,9 @@ use std::alloc::Global;
 use std::fmt;
 use std::io::{self, BufWriter, Write};
 use std::rt::Files;
-use what_if::{Answer, Effort, Line, Promise, Step, Tried, replay, what_if};
-use what_if_text::{Told, write_told, write_told_json};
+use what_if::{
+    Answer, Effort, Line, Promise, Step, Told, Tried, replay, what_if, write_told, write_told_json,
+};
 
 /// What is played on so many cores, and how it is told: the steps of a trace in this file, or what a search among so
 /// many states finds and then rounds, of which the first has this seed.

@@ -6,8 +6,10 @@ use litmus_chart::{Participant, SpaceTime, State, What, sender};
 use litmus_text::{Command, TextFault};
 use slice_queues_message::{DataMessage, ForwardedMessage, Message, Pick, RequestMessage};
 use std::alloc::Global;
-use what_if::{CoreSide, DataKind, Forwarded, ForwardedKind, Line, Promise, RequestKind, Step};
-use what_if_text::{Told, is_changed, name_of_promise};
+use what_if::{
+    CoreSide, DataKind, Forwarded, ForwardedKind, Line, Promise, RequestKind, Step, Told,
+    is_changed, name_of_promise,
+};
 
 const LINE: LineAddr = LineAddr(0);
 

@@ -5,7 +5,7 @@ use litmus_chart::{SpaceTime, write_drawing};
 use std::alloc::Global;
 use std::fmt;
 use std::fmt::Write;
-use what_if_text::{Told, write_told};
+use what_if::{Told, write_told};
 
 /// The page above the picture.
 const HEAD: &str = "<!doctype html>

@@ -7,11 +7,11 @@ use Rattle.cache_table.specs.declared.row.CacheSends.{CacheSends}
 use Rattle.cache_table.specs.declared.row.CacheSends.TheVariants as cache_sends
 use Rattle.cache_table.specs.declared.row.Row.{Row}
 use Rattle.cache_table.specs.declared.row.Row.TheVariants as rows
-use Rattle.protocol_rows.specs.Cache.{accesses, messages_of, rule_of, sample_of, states_of}
-use Rattle.protocol_rows.specs.declared.cache.CacheCase.{CacheCase}
-use Rattle.protocol_rows.specs.declared.cache.CacheCase.TheVariants as cases
-use Rattle.protocol_rows.specs.declared.cache.Counted.TheVariants as counted
 use Rattle.protocol_tables.specs.Cache.{text_of_effect}
+use Rattle.protocol_tables.specs.CacheRows.{accesses, messages_of, rule_of, sample_of, states_of}
+use Rattle.protocol_tables.specs.declared.cache_rows.CacheCase.{CacheCase}
+use Rattle.protocol_tables.specs.declared.cache_rows.CacheCase.TheVariants as cases
+use Rattle.protocol_tables.specs.declared.cache_rows.Counted.TheVariants as counted
 
 -- ---- words
 

@@ -2,22 +2,22 @@
 use Rattle.std.specs.Prelude.{ℕ, Bool, true, false, List, ◌++◌, codes}
 use Rattle.std.specs.List.{flat_map}
 use Rattle.directory_table.specs.Name.{name_of}
-use Rattle.protocol_rows.specs.Directory.{all_cases, all_entries, rule_of}
-use Rattle.protocol_rows.specs.declared.directory.DirCase.{DirCase}
-use Rattle.protocol_rows.specs.declared.directory.DirCase.TheVariants as cases
-use Rattle.protocol_rows.specs.declared.directory.DirEffect.{DirEffect}
-use Rattle.protocol_rows.specs.declared.directory.DirMessage.{DirMessage}
-use Rattle.protocol_rows.specs.declared.directory.DirMessage.TheVariants as messages
-use Rattle.protocol_rows.specs.declared.directory.DirRule.{DirRule}
-use Rattle.protocol_rows.specs.declared.directory.DirRule.TheVariants as rules
-use Rattle.protocol_rows.specs.declared.directory.Entry.{Entry}
-use Rattle.protocol_rows.specs.declared.directory.Entry.TheVariants as entries
-use Rattle.protocol_rows.specs.declared.directory.Owns.{Owns}
-use Rattle.protocol_rows.specs.declared.directory.Owns.TheVariants as owns
-use Rattle.protocol_rows.specs.declared.directory.Shares.{Shares}
-use Rattle.protocol_rows.specs.declared.directory.Shares.TheVariants as shares
-use Rattle.protocol_rows.specs.declared.directory.Sharing.TheVariants as sharing
 use Rattle.protocol_tables.specs.Directory.{text_of_home}
+use Rattle.protocol_tables.specs.DirectoryRows.{all_cases, all_entries, rule_of}
+use Rattle.protocol_tables.specs.declared.directory_rows.DirCase.{DirCase}
+use Rattle.protocol_tables.specs.declared.directory_rows.DirCase.TheVariants as cases
+use Rattle.protocol_tables.specs.declared.directory_rows.DirEffect.{DirEffect}
+use Rattle.protocol_tables.specs.declared.directory_rows.DirMessage.{DirMessage}
+use Rattle.protocol_tables.specs.declared.directory_rows.DirMessage.TheVariants as messages
+use Rattle.protocol_tables.specs.declared.directory_rows.DirRule.{DirRule}
+use Rattle.protocol_tables.specs.declared.directory_rows.DirRule.TheVariants as rules
+use Rattle.protocol_tables.specs.declared.directory_rows.Entry.{Entry}
+use Rattle.protocol_tables.specs.declared.directory_rows.Entry.TheVariants as entries
+use Rattle.protocol_tables.specs.declared.directory_rows.Owns.{Owns}
+use Rattle.protocol_tables.specs.declared.directory_rows.Owns.TheVariants as owns
+use Rattle.protocol_tables.specs.declared.directory_rows.Shares.{Shares}
+use Rattle.protocol_tables.specs.declared.directory_rows.Shares.TheVariants as shares
+use Rattle.protocol_tables.specs.declared.directory_rows.Sharing.TheVariants as sharing
 
 -- ---- words
 

@@ -2,12 +2,13 @@
 
 ghost use Rattle.std.specs.Prelude.{◌≡◌, OnOk};
 ghost use Rattle.std.specs.Fmt.{WritesInCalls};
-ghost use Rattle.protocol_rows.specs.Cache.{states_of};
+ghost use Rattle.protocol_tables.specs.CacheRows.{states_of};
 ghost use Rattle.protocol_smt.specs.Cache.{cells_of, never_of, queries_of, query_of, state_queries_of, states_queries};
 
 use cache_table::{CacheSends, CopyState, Row};
-use protocol_rows::{CacheCase, Counted, accesses, cache_rule, messages, sample_of, states};
-use protocol_tables::text_of_effect;
+use protocol_tables::{
+    CacheCase, Counted, accesses, cache_rule, messages, sample_of, states, text_of_effect,
+};
 use std::fmt;
 use std::fmt::Write;
 

@@ -4,11 +4,10 @@ ghost use Rattle.std.specs.Prelude.{◌≡◌, OnOk};
 ghost use Rattle.std.specs.Fmt.{WritesInCalls};
 ghost use Rattle.protocol_smt.specs.Directory.{cells_of, entries_queries, entries_terms, entry_terms, queries_of, query_of};
 
-use protocol_rows::{
+use protocol_tables::{
     DirCase, DirEffect, DirMessage, DirRule, Entry, Owns, Shares, Sharing, dir_cases,
-    directory_rule, entries,
+    directory_rule, entries, text_of_home,
 };
-use protocol_tables::text_of_home;
 use std::fmt;
 use std::fmt::Write;
 

@@ -2,13 +2,13 @@
 use Rattle.std.specs.Prelude.{Option, None, Some}
 use Rattle.std.specs.Option.{option_map}
 use Rattle.cache_table.specs.declared.state.CopyState.{CopyState}
-use Rattle.protocol_coverage.specs.declared.cell.Cell.{Cell}
-use Rattle.protocol_coverage.specs.declared.cell.Outcome.{Outcome}
-use Rattle.protocol_coverage.specs.declared.cell.Outcome.TheVariants as outcomes
-use Rattle.protocol_coverage.specs.declared.cell.TableEvent.{TableEvent}
-use Rattle.protocol_coverage.specs.declared.cell.TableEvent.TheVariants as table_events
-use Rattle.protocol_coverage.specs.declared.cell.TableState.{TableState}
-use Rattle.protocol_coverage.specs.declared.cell.TableState.TheVariants as table_states
+use Rattle.script_coverage.specs.declared.table_cell.Cell.{Cell}
+use Rattle.script_coverage.specs.declared.table_cell.Outcome.{Outcome}
+use Rattle.script_coverage.specs.declared.table_cell.Outcome.TheVariants as outcomes
+use Rattle.script_coverage.specs.declared.table_cell.TableEvent.{TableEvent}
+use Rattle.script_coverage.specs.declared.table_cell.TableEvent.TheVariants as table_events
+use Rattle.script_coverage.specs.declared.table_cell.TableState.{TableState}
+use Rattle.script_coverage.specs.declared.table_cell.TableState.TheVariants as table_states
 use Rattle.script_explained.specs.declared.step.Step.{Step}
 use Rattle.script_explained.specs.declared.step.Step.TheVariants as steps
 use Rattle.slice_answer.specs.declared.answer.Delivery.{Delivery}

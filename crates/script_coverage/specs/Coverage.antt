@@ -5,9 +5,9 @@ use Rattle.litmus_script.specs.Play.{IsOfRun}
 use Rattle.litmus_script.specs.Script.{IsPlayedOn, IsRunUpTo, IsSetUp}
 use Rattle.litmus_text.specs.declared.fault.TextFault.{TextFault}
 use Rattle.mshr_file.specs.Miss.{Bound}
-use Rattle.protocol_coverage.specs.Counts.{counted_all, listed}
-use Rattle.protocol_coverage.specs.declared.cells.TheConstants.{CELLS}
+use Rattle.script_coverage.specs.Counts.{counted_all, listed}
 use Rattle.script_coverage.specs.Trail.{Notingly}
+use Rattle.script_coverage.specs.declared.cells.TheConstants.{CELLS}
 
 -- The commands are played on a new machine, and these are the counts of the cells that the steps met: each that can be met
 -- under the machine's setting is listed.

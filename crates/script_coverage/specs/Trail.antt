@@ -2,9 +2,9 @@
 use Rattle.std.specs.Prelude.{◌≡◌, ℕ, List, [], ◌∷◌, Option, Some, None, slice_get}
 use Rattle.std.specs.Io.KnownBytes.{Appends}
 use Rattle.litmus_script.specs.Script.{Playing}
-use Rattle.protocol_coverage.specs.declared.cell.Cell.{Cell}
-use Rattle.protocol_coverage.specs.declared.cells.TheConstants.{CELLS}
 use Rattle.script_coverage.specs.Cell.{cell_of, cell_of_delivery}
+use Rattle.script_coverage.specs.declared.cells.TheConstants.{CELLS}
+use Rattle.script_coverage.specs.declared.table_cell.Cell.{Cell}
 use Rattle.script_explained.specs.Step.{PlaysSteps, Writing, WritingNext}
 
 -- the number of the cell that was met, where it has one

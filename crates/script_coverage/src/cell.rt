@@ -3,8 +3,8 @@ ghost use Rattle.std.specs.Prelude.{◌≡◌};
 ghost use Rattle.script_coverage.specs.Cell.{cell_at, cell_of, cell_of_delivery, event_of, event_of_message};
 ghost use Rattle.script_coverage.specs.Cell.{outcome_of_access, outcome_of_decision, outcome_of_eviction, outcome_of_plan, state_after, state_of};
 
+use super::table_cell::{Cell, Outcome, TableEvent, TableState};
 use cache_table::CopyState;
-use protocol_coverage::{Cell, Outcome, TableEvent, TableState};
 use script_explained::{DeliveryStep, Step};
 use slice_answer::{Evicted, Stall};
 use slice_core_cache::AccessKind;

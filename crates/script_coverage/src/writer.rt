@@ -5,9 +5,9 @@ ghost use Rattle.litmus_script.specs.Play.{IsOfRun};
 ghost use Rattle.script_coverage.specs.Trail.{IsNumberOf, Notes};
 
 use super::cell::{cell_of, cell_of_delivery};
+use super::table_cell::Cell;
 use litmus_script::Machine;
 use litmus_text::{Statement, TextFault};
-use protocol_coverage::Cell;
 use script_explained::{DeliveryStep, Step, StepWriter};
 use stats_report::write_text;
 use std::io::Write;

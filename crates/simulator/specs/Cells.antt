@@ -11,12 +11,12 @@ use Rattle.litmus_script.specs.Machine.{HasAt}
 use Rattle.litmus_text.specs.Command.{HasCore}
 use Rattle.litmus_text.specs.declared.command.Command.{Command}
 use Rattle.litmus_text.specs.declared.command.Command.TheVariants as commands
-use Rattle.protocol_coverage.specs.declared.cell.Cell.{Cell}
-use Rattle.protocol_coverage.specs.declared.cell.Outcome.{Outcome}
-use Rattle.protocol_coverage.specs.declared.cell.Outcome.TheVariants as outcomes
-use Rattle.protocol_coverage.specs.declared.cell.TableEvent.TheVariants as table_events
-use Rattle.protocol_coverage.specs.declared.cell.TableState.TheVariants as table_states
 use Rattle.script_coverage.specs.Cell.{cell_at, outcome_of_decision, outcome_of_plan}
+use Rattle.script_coverage.specs.declared.table_cell.Cell.{Cell}
+use Rattle.script_coverage.specs.declared.table_cell.Outcome.{Outcome}
+use Rattle.script_coverage.specs.declared.table_cell.Outcome.TheVariants as outcomes
+use Rattle.script_coverage.specs.declared.table_cell.TableEvent.TheVariants as table_events
+use Rattle.script_coverage.specs.declared.table_cell.TableState.TheVariants as table_states
 use Rattle.script_explained.specs.Delivery.{case_at}
 use Rattle.script_explained.specs.Issue.{issue_at}
 use Rattle.script_explained.specs.Look.{copy_at}

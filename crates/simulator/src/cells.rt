@@ -6,8 +6,9 @@ ghost use Rattle.simulator.specs.Cells.{cell_of_delivery, cell_of_eviction, cell
 
 use address_map::{CoreId, LineAddr, Request};
 use mshr_file::EitherFile;
-use protocol_coverage::{Cell, Outcome, TableEvent, TableState};
-use script_coverage::{cell_at, outcome_of_decision, outcome_of_plan};
+use script_coverage::{
+    Cell, Outcome, TableEvent, TableState, cell_at, outcome_of_decision, outcome_of_plan,
+};
 use slice_core::{CopyState, DirState, Pick, SliceState};
 use step_text::{Case, Event, Who};
 

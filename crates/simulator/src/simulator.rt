@@ -26,7 +26,7 @@ use arrayvec::ArrayVec;
 use litmus_script::{Issued, Machine};
 use litmus_text::{Command, Settings, TextFault};
 use mshr_file::Target;
-use protocol_coverage::Cell;
+use script_coverage::Cell;
 use slice_core::{
     CacheCopy, Class, CoreLines, Decision, Delivered, DeliveredNext, Entry, Evicted, LineView,
     Message, Numbered, Pick, Plan, Stats,

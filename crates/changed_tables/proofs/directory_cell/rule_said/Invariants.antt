@@ -1,5 +1,5 @@
 use Rattle.std.proofs.Common.{ℕ, ◌<◌}
-use Rattle.protocol_rows.specs.declared.directory.DirRule.TheVariants as rules
+use Rattle.protocol_tables.specs.declared.directory_rows.DirRule.TheVariants as rules
 use Rattle.changed_tables.specs.DirectoryText.{IsSaid}
 use Rattle.changed_tables.specs.Effects.{effect_at}
 use Rattle.changed_tables.proofs.directory_cell.rule_said.Given as goal

@@ -1,3 +1,0 @@
-pub mod Cell
-pub mod Counts
-pub mod Read

@@ -1,2 +1,0 @@
-mod CacheCases
-pub mod DirectoryEntries

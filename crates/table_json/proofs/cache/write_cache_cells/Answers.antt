@@ -1,4 +1,0 @@
-use Rattle.table_json.proofs.cache.write_cache_cells.Goals as goal
-
-pub returns : goal.returns
-returns g c = rw c.states.ensures at c.write_states.ensures

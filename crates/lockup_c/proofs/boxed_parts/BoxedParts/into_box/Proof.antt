@@ -35,14 +35,14 @@ use Rattle.std.proofs.alloc.Calls.{token, Goes-blank}
 use Rattle.std.specs.Box.Ownership.{box_owns}
 use Rattle.std.proofs.BoxSteps.Form.{Bx, D, R, P, B, args, box_ty, word, box_typed}
 use Rattle.std.proofs.BoxSteps.Steps.{box_out, box_in}
-use Rattle.boxed_parts.specs.contracts.parts.BoxedParts as parts
+use Rattle.lockup_c.specs.contracts.boxed_parts.BoxedParts as parts
 use Rattle.std_alloc.specs.contracts.boxed.Box.from_raw as from_raw
 use Rattle.std_alloc.proofs.boxed.Box.from_raw.Symbol as symbol
 use Rattle.std_alloc.proofs.boxed.Box.from_raw.Met as met
-use Rattle.boxed_parts.specs.contracts.parts.BoxedParts.into_box as F
-use Rattle.boxed_parts.specs.contracts.parts.BoxedParts.into_box.Key.{name as key}
-use Rattle.boxed_parts.proofs.parts.BoxedParts.into_box.Statement as stated
-use Rattle.boxed_parts.proofs.parts.BoxedParts.into_box.Code as code
+use Rattle.lockup_c.specs.contracts.boxed_parts.BoxedParts.into_box as F
+use Rattle.lockup_c.specs.contracts.boxed_parts.BoxedParts.into_box.Key.{name as key}
+use Rattle.lockup_c.proofs.boxed_parts.BoxedParts.into_box.Statement as stated
+use Rattle.lockup_c.proofs.boxed_parts.BoxedParts.into_box.Code as code
 
 -- what is left of the code once the box was made: it is the result
 abbrev rest : Body

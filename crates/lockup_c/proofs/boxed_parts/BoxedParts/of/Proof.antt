@@ -37,14 +37,14 @@ use Rattle.std.proofs.alloc.Calls.{token, handle_tells, Goes-blank}
 use Rattle.std.specs.Box.Ownership.{box_owns}
 use Rattle.std.proofs.BoxSteps.Form.{Bx, D, τ, R, P, B, word, box_typed}
 use Rattle.std.proofs.BoxSteps.Steps.{box_out, box_in}
-use Rattle.boxed_parts.specs.contracts.parts.BoxedParts as parts
+use Rattle.lockup_c.specs.contracts.boxed_parts.BoxedParts as parts
 use Rattle.std_alloc.specs.contracts.boxed.Box.into_raw_with_allocator as into_raw
 use Rattle.std_alloc.proofs.boxed.Box.into_raw_with_allocator.Symbol as symbol
 use Rattle.std_alloc.proofs.boxed.Box.into_raw_with_allocator.Met as met
-use Rattle.boxed_parts.specs.contracts.parts.BoxedParts.of as F
-use Rattle.boxed_parts.specs.contracts.parts.BoxedParts.of.Key.{name as key}
-use Rattle.boxed_parts.proofs.parts.BoxedParts.of.Statement as stated
-use Rattle.boxed_parts.proofs.parts.BoxedParts.of.Code as code
+use Rattle.lockup_c.specs.contracts.boxed_parts.BoxedParts.of as F
+use Rattle.lockup_c.specs.contracts.boxed_parts.BoxedParts.of.Key.{name as key}
+use Rattle.lockup_c.proofs.boxed_parts.BoxedParts.of.Statement as stated
+use Rattle.lockup_c.proofs.boxed_parts.BoxedParts.of.Code as code
 
 module _ (E : Bx) (drops : Dict) where
   abbrev args : Args

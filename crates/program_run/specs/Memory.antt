@@ -1,12 +1,12 @@
 -- What a memory of events keeps.
 use Rattle.std.specs.Prelude.{◌≡◌, ℕ, Bool, ◌+◌, ◌*◌, ◌<◌, List, slice_index_or}
 use Rattle.address_map.specs.CoreSet.{has}
-use Rattle.miss_cause.specs.Cause.{fate_of, is_written_since}
-use Rattle.miss_cause.specs.declared.cause.Event.{Event}
-use Rattle.miss_cause.specs.declared.cause.Event.TheVariants as events
-use Rattle.miss_cause.specs.declared.cause.Fate.{Fate}
-use Rattle.miss_cause.specs.declared.cause.Fate.TheVariants as fates
-use Rattle.miss_cause.specs.declared.memory.Memory.{Memory}
+use Rattle.program_run.specs.Cause.{fate_of, is_written_since}
+use Rattle.program_run.specs.declared.cause.Event.{Event}
+use Rattle.program_run.specs.declared.cause.Event.TheVariants as events
+use Rattle.program_run.specs.declared.cause.Fate.{Fate}
+use Rattle.program_run.specs.declared.cause.Fate.TheVariants as fates
+use Rattle.program_run.specs.declared.memory.Memory.{Memory}
 
 -- what is kept of a core and a line, and of a core and a word
 abbrev pub fate_in : Memory → ℕ → ℕ → Fate

@@ -1,6 +1,6 @@
 use Rattle.std.proofs.Common.{◌≡◌, ℕ, false, ◌<◌, ◌/◌, ◌%◌, ◌==◌, ◌&&◌, nat_lt, if◌then◌else◌}
-use Rattle.miss_cause.specs.Memory.{written_in}
-use Rattle.miss_cause.proofs.memory.Memory.forget_writes.Given as goal
+use Rattle.program_run.specs.Memory.{written_in}
+use Rattle.program_run.proofs.memory.Memory.forget_writes.Given as goal
 
 abbrev pub invariant-loop-offset : goal.invariant-loop-offset
 invariant-loop-offset l =

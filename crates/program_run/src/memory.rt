@@ -1,8 +1,8 @@
 ghost use Rattle.std.specs.Prelude.{◌≡◌, ℕ, true, false, not, ◌<◌, ◌≤◌, ◌+◌, ◌*◌, ◌/◌, ◌==◌, ◌&&◌, List, [], ◌∷◌};
 ghost use Rattle.std.specs.Prelude.{IfOk, IfSome, IsSome, IsTrue, ◌↔◌, vec_len, if◌then◌else◌};
-ghost use Rattle.miss_cause.specs.Cause.{cause_by, cause_of, fate_of};
-ghost use Rattle.miss_cause.specs.declared.cause.Event.{Event};
-ghost use Rattle.miss_cause.specs.declared.cause.Fate.TheVariants as fates;
+ghost use Rattle.program_run.specs.Cause.{cause_by, cause_of, fate_of};
+ghost use Rattle.program_run.specs.declared.cause.Event.{Event};
+ghost use Rattle.program_run.specs.declared.cause.Fate.TheVariants as fates;
 
 use super::cause::{Cause, Event, Fate};
 use address_map::{CoreId, CoreSet, LineAddr, WordAddr};
@@ -22,10 +22,10 @@ pub struct Memory {
 }
 
 impl Memory {
-    ghost use Rattle.miss_cause.specs.Memory.{HasPlace, Recalls, fate_in, written_in};
+    ghost use Rattle.program_run.specs.Memory.{HasPlace, Recalls, fate_in, written_in};
 
     /// Nothing happened to so many lines.
-    #[tactic(auto, using(crate::proofs::Sets::word_sets))]
+    #[tactic(auto, using(crate::proofs::WordSets::word_sets))]
     pub fn new(alloc: Global, lines: usize) -> Result<Self, AllocError>
         requires { lines ≤ 65536 }
         ensures lines { IfOk result (λ memory. memory.lines ≡ lines) }
@@ -102,7 +102,7 @@ impl Memory {
     }
 
     // The core lost the line: no write of its words came since.
-    #[tactic(auto, using(crate::proofs::Sets::word_sets))]
+    #[tactic(auto, using(crate::proofs::WordSets::word_sets))]
     fn forget_writes(&mut self, core: CoreId, line: LineAddr)
         requires line { line.0 < self.old.lines }
         ensures lines { self.new.lines ≡ self.old.lines }
@@ -116,7 +116,7 @@ impl Memory {
     }
 
     // All cores but this one see the word written by another, and this one sees what it saw.
-    #[tactic(auto, using(crate::proofs::Sets::word_sets))]
+    #[tactic(auto, using(crate::proofs::WordSets::word_sets))]
     fn write(&mut self, core: CoreId, word: WordAddr)
         requires word { word.0 < self.old.lines * 8 }
         ensures lines { self.new.lines ≡ self.old.lines }

@@ -1,11 +1,11 @@
 -- Why an access misses: a function of what happened before. Events stand with the newest first.
 use Rattle.std.specs.Prelude.{ℕ, Bool, true, false, ◌==◌, ◌&&◌, ◌||◌, ◌/◌, not, List, [], ◌∷◌, if◌then◌else◌}
-use Rattle.miss_cause.specs.declared.cause.Cause.{Cause}
-use Rattle.miss_cause.specs.declared.cause.Cause.TheVariants as causes
-use Rattle.miss_cause.specs.declared.cause.Event.{Event}
-use Rattle.miss_cause.specs.declared.cause.Event.TheVariants as events
-use Rattle.miss_cause.specs.declared.cause.Fate.{Fate}
-use Rattle.miss_cause.specs.declared.cause.Fate.TheVariants as fates
+use Rattle.program_run.specs.declared.cause.Cause.{Cause}
+use Rattle.program_run.specs.declared.cause.Cause.TheVariants as causes
+use Rattle.program_run.specs.declared.cause.Event.{Event}
+use Rattle.program_run.specs.declared.cause.Event.TheVariants as events
+use Rattle.program_run.specs.declared.cause.Fate.{Fate}
+use Rattle.program_run.specs.declared.cause.Fate.TheVariants as fates
 
 -- what became last of the core's copy of the line
 abbrev pub fate_of : ℕ → ℕ → List Event → Fate

@@ -1,8 +1,8 @@
 #![tactic(auto, unfolding(crate::specs::Sums::at, crate::specs::Sums::table, crate::specs::Sums::zeros, crate::specs::Sums::plus, crate::specs::Sums::only))]
 
 ghost use Rattle.std.specs.Prelude.{◌≡◌, ℕ, ◌+◌, ◌<◌, ◌≤◌};
-ghost use Rattle.receipt_shares.specs.Sums.{zeros, plus, only, at};
-ghost use Rattle.receipt_shares.specs.Names.{AreNamed};
+ghost use Rattle.receipt_ledger.specs.Sums.{zeros, plus, only, at};
+ghost use Rattle.receipt_ledger.specs.Names.{AreNamed};
 
 use super::names::{Led, SliceNames};
 use std::marker::Model;
@@ -24,7 +24,7 @@ pub(crate) struct CounterBlanks {
 
 impl Model for CounterBlanks {
     ghost use Rattle.std.specs.Prelude.{◌≡◌, [], ◌∷◌};
-    ghost use Rattle.receipt_shares.specs.Names.{Unopened};
+    ghost use Rattle.receipt_ledger.specs.Names.{Unopened};
 
     ghost Value = { Unopened };
 
@@ -53,7 +53,7 @@ pub(crate) struct CounterShares<N: SliceNames> {
 
 impl<N: SliceNames> Model for CounterShares<N> {
     ghost use Rattle.std.specs.Prelude.{◌≡◌};
-    ghost use Rattle.receipt_shares.specs.Sums.{Held};
+    ghost use Rattle.receipt_ledger.specs.Sums.{Held};
 
     ghost Value = { Held };
 
@@ -90,7 +90,7 @@ pub(crate) struct CounterBooks<N: SliceNames> {
 }
 
 impl<N: SliceNames> Model for CounterBooks<N> {
-    ghost use Rattle.receipt_shares.specs.Sums.{Sums};
+    ghost use Rattle.receipt_ledger.specs.Sums.{Sums};
 
     ghost Value = { Sums };
 

@@ -14,7 +14,7 @@ pub struct Blanks {
 
 impl Model for Blanks {
     ghost use Rattle.std.specs.Prelude.{◌≡◌, ◌∷◌};
-    ghost use Rattle.receipt_shares.specs.Names.{Unopened};
+    ghost use Rattle.receipt_ledger.specs.Names.{Unopened};
 
     ghost Value = { Unopened };
 

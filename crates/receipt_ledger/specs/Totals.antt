@@ -2,7 +2,7 @@
 use Rattle.std.specs.Prelude.{ℕ, ◌+◌, ◌≤◌, List, [], ◌∷◌, length}
 use Rattle.address_map.specs.declared.address.WordAddr.{WordAddr}
 use Rattle.slice_log.specs.declared.entry.Entry.{Entry}
-use Rattle.receipt_shares.specs.Sums.{Sums, at, zeros, plus, sums}
+use Rattle.receipt_ledger.specs.Sums.{Sums, at, zeros, plus, sums}
 
 -- whole numbers, which no machine word bounds
 pub record Totals : Type 0 where

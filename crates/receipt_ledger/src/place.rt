@@ -1,6 +1,6 @@
 ghost use Rattle.std.specs.Prelude.{◌≡◌, ◌<◌, ◌≤◌, [], ◌∷◌, length, position, MatchOption, ◌==◌};
 ghost use Rattle.address_map.specs.Words.{IsAscendingBy};
-ghost use Rattle.receipt_shares.specs.Sums.{zeros, only, sums};
+ghost use Rattle.receipt_ledger.specs.Sums.{zeros, only, sums};
 
 use address_map::{Op, WordAddr};
 use slice_log::Entry;

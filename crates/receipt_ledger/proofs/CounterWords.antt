@@ -7,7 +7,7 @@ use Rattle.address_map.specs.declared.config.Config.{Config}
 use Rattle.address_map.specs.Config.{IsAllowed}
 use Rattle.address_map.specs.Place.{counters_of, line_of, slice_of}
 use Rattle.address_map.specs.Words.{IsAscendingBy}
-use Rattle.receipt_shares.specs.Names.{AreCounters}
+use Rattle.receipt_ledger.specs.Names.{AreCounters}
 
 pub counters_allowed : (c : Config) (number : ℕ) (words : List WordAddr)
     → IsAllowed c → words ≡ counters_of c number → AreCounters c number words

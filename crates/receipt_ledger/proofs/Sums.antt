@@ -8,7 +8,7 @@ use Rattle.std.proofs.lemmas.List.Sums.{sum_by-append}
 use Rattle.address_map.specs.declared.address.WordAddr.{WordAddr}
 use Rattle.slice_log.specs.declared.entry.Entry.{Entry}
 use Rattle.slice_log.specs.Log.{named, added_to}
-use Rattle.receipt_shares.specs.Sums.{Sums, at, table, zeros, plus, only, sum_at, sums}
+use Rattle.receipt_ledger.specs.Sums.{Sums, at, table, zeros, plus, only, sum_at, sums}
 
 -- ---- the eight places
 

@@ -1,9 +1,9 @@
 use Rattle.std.proofs.Common.{◌==◌, sym, ◌∙◌, ap, arith}
 use Rattle.std.proofs.lemmas.List.Quantifiers.{position-Some}
 use Rattle.slice_log.specs.Log.{added_by}
-use Rattle.receipt_shares.specs.Sums.{only}
-use Rattle.receipt_shares.proofs.Places.{adds_nothing, adds_nowhere, adds_there}
-use Rattle.receipt_shares.proofs.place.addition.Goals as goal
+use Rattle.receipt_ledger.specs.Sums.{only}
+use Rattle.receipt_ledger.proofs.Places.{adds_nothing, adds_nowhere, adds_there}
+use Rattle.receipt_ledger.proofs.place.addition.Goals as goal
 
 pub returns-in_default : goal.returns-in_default
 returns-in_default c = adds_nothing c.args.words.now c.args.entry.now c.in_default.not-Add

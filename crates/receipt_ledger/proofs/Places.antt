@@ -13,8 +13,8 @@ use Rattle.address_map.specs.declared.request.Op.TheVariants as ops
 use Rattle.address_map.specs.Words.{IsAscendingBy}
 use Rattle.slice_log.specs.declared.entry.Entry.{Entry}
 use Rattle.slice_log.specs.Log.{added_to, added_by}
-use Rattle.receipt_shares.specs.Sums.{zeros, only, sum_at, sums}
-use Rattle.receipt_shares.proofs.Sums.{sums_same, at_zeros, at_only, at_sums}
+use Rattle.receipt_ledger.specs.Sums.{zeros, only, sum_at, sums}
+use Rattle.receipt_ledger.proofs.Sums.{sums_same, at_zeros, at_only, at_sums}
 
 -- what one entry adds to the counter at a place, by whether its word is there
 added_at : (words : List WordAddr) (e : Entry) (k amount : ℕ)

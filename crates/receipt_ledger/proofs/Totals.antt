@@ -2,9 +2,9 @@
 use Rattle.std.proofs.Common.{◌≡◌, ℕ, ◌+◌, List, [], ◌∷◌, ◌++◌, length, length-append, refl, sym, ap, ◌∙◌, arith}
 use Rattle.address_map.specs.declared.address.WordAddr.{WordAddr}
 use Rattle.slice_log.specs.declared.entry.Entry.{Entry}
-use Rattle.receipt_shares.specs.Sums.{Sums, zeros, plus, sums}
-use Rattle.receipt_shares.specs.Totals.{Totals, totals, nothing, only_accepted, only_handed, together, IsWithin}
-use Rattle.receipt_shares.proofs.Sums.{plus_comm, plus_assoc, plus_zeros, plus_cancel, at_within, sums_append, sums_nil}
+use Rattle.receipt_ledger.specs.Sums.{Sums, zeros, plus, sums}
+use Rattle.receipt_ledger.specs.Totals.{Totals, totals, nothing, only_accepted, only_handed, together, IsWithin}
+use Rattle.receipt_ledger.proofs.Sums.{plus_comm, plus_assoc, plus_zeros, plus_cancel, at_within, sums_append, sums_nil}
 
 -- totals are their three parts
 pub totals_same : (a b m n : ℕ) (s t : Sums) → a ≡ b → m ≡ n → s ≡ t

@@ -1,6 +1,6 @@
 ghost use Rattle.std.specs.Prelude.{◌≡◌, ◌+◌, ◌<◌, ◌≤◌};
-ghost use Rattle.receipt_shares.specs.Names.{AreCounters, AreLedgersOf};
-ghost use Rattle.receipt_shares.specs.Totals.{nothing, only_accepted, only_handed, together, IsWithin};
+ghost use Rattle.receipt_ledger.specs.Names.{AreCounters, AreLedgersOf};
+ghost use Rattle.receipt_ledger.specs.Totals.{nothing, only_accepted, only_handed, together, IsWithin};
 
 use super::blanks::Blanks;
 use super::counters::{CounterBooks, CounterShares, pour};
@@ -21,7 +21,7 @@ pub struct Shares<N: SliceNames> {
 
 impl<N: SliceNames> Model for Shares<N> {
     ghost use Rattle.std.specs.Prelude.{◌≡◌};
-    ghost use Rattle.receipt_shares.specs.Totals.{Amounts};
+    ghost use Rattle.receipt_ledger.specs.Totals.{Amounts};
 
     ghost Value = { Amounts };
 
@@ -42,7 +42,7 @@ pub struct Books<N: SliceNames> {
 }
 
 impl<N: SliceNames> Model for Books<N> {
-    ghost use Rattle.receipt_shares.specs.Totals.{Totals};
+    ghost use Rattle.receipt_ledger.specs.Totals.{Totals};
 
     ghost Value = { Totals };
 

@@ -1,8 +1,8 @@
 ghost use Rattle.std.specs.Prelude.{◌≡◌};
 
-use receipt_shares::Blanks;
-
 /// The ledgers of four slices before any type stands for them, all of as many parts.
+use receipt_ledger::Blanks;
+
 #[derive(Drop)]
 pub struct SystemBlanks {
     pub slice0: Blanks,

@@ -5,7 +5,7 @@ use super::names::SystemNames;
 use super::system::System;
 use address_map::SliceId;
 use mshr_file::MissFile;
-use receipt_shares::SliceNames;
+use receipt_ledger::SliceNames;
 use slice_core::SliceState;
 use slice_lock::Look;
 use std::marker::Model;

@@ -1,7 +1,7 @@
 ghost use Rattle.std.specs.Prelude.{◌≡◌, ℕ};
 ghost use Rattle.address_map.specs.declared.config.Config.{Config};
 
-use receipt_shares::SliceNames;
+use receipt_ledger::SliceNames;
 use std::marker::{Brand, PhantomData};
 
 /// Which machine a system, a set of ports or a core is of, and of which slice each of its parts. It exists in proofs

@@ -4,7 +4,7 @@ ghost use Rattle.address_map.specs.Place.{slice_of};
 ghost use Rattle.core_thread_system.specs.Core.{AreFreshSets};
 ghost use Rattle.core_thread_system.specs.Error.{IsAccepted, IsFaultOf};
 ghost use Rattle.core_thread_system.specs.System.{IsPlaced};
-ghost use Rattle.receipt_shares.specs.Names.{AreLedgersOf};
+ghost use Rattle.receipt_ledger.specs.Names.{AreLedgersOf};
 ghost use Rattle.slice_core.specs.Facts.{IsNotBrokenNext};
 
 use super::blanks::SystemBlanks;
@@ -13,8 +13,7 @@ use super::names::SystemNames;
 use super::port_set::{PortSet, deal};
 use address_map::{Checked, Config, LineAddr, SliceId, slice_of};
 use mshr_file::MissFile;
-use receipt_ledger::Port;
-use receipt_shares::{Blanks, SliceNames};
+use receipt_ledger::{Blanks, Port, SliceNames};
 use slice_answer::DeliveredNext;
 use slice_lock::Slice;
 use slice_queues_message::Class;

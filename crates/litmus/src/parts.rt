@@ -1,11 +1,10 @@
 //! A walk in parts: it is printed in parts, and parts that were put together are printed as one walk.
 ghost use Rattle.std.specs.Prelude.{◌≡◌, ◌-◌, ◌^◌, [], All, IfErr, IfOk, OnOk, unwrap_or};
 ghost use Rattle.litmus.specs.Tests.{IsOfTest, IsTestNotRun};
-ghost use Rattle.litmus_parts.specs.Sum.{sum_of};
 ghost use Rattle.litmus_rounds.specs.Parts.{IsPartOf, PrintsParts};
 ghost use Rattle.litmus_rounds.specs.Run.{HaveEnded, PrintsWalks};
-ghost use Rattle.mshr_file.specs.Miss.{bound_of};
-ghost use Rattle.mshr_file.specs.Miss.{Bound};
+ghost use Rattle.litmus_rounds.specs.Sum.{sum_of};
+ghost use Rattle.mshr_file.specs.Miss.{Bound, bound_of};
 
 use litmus_outcomes::OutcomeForm;
 use litmus_rounds::{Merged, Part, first_other, sum_of};

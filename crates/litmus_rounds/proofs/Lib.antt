@@ -1,4 +1,5 @@
 pub mod MatchLemmas
 pub mod MergeLemmas
 pub mod PartLemmas
+mod PieceLemmas
 pub mod RoundLemmas

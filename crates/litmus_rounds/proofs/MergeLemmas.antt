@@ -7,7 +7,7 @@ use Rattle.litmus_outcomes.specs.Ended.{ended_behind}
 use Rattle.litmus_outcomes.specs.Table.{TableView}
 use Rattle.litmus_outcomes.specs.declared.ended.Ended.{Ended}
 use Rattle.litmus_outcomes.specs.declared.ended.Ended.TheVariants as ended_kinds
-use Rattle.litmus_parts.specs.declared.part.Part.{Part}
+use Rattle.litmus_rounds.specs.declared.part.Part.{Part}
 use Rattle.litmus_rounds.specs.Merge.{AddsRounds, IsMergeOf, MayFollow, MissesTo}
 use Rattle.litmus_rounds.specs.Parts.{IsPartOf}
 use Rattle.litmus_rounds.specs.Run.{HaveEnded, seed_of}

@@ -15,8 +15,8 @@ use Rattle.std.proofs.lemmas.List.{append-nil, take-append-le}
 use Rattle.std.proofs.lemmas.List.Concat.{flat_map-append}
 use Rattle.std.proofs.lemmas.List.Elements.{All-get_or, All-nil, All-push}
 use Rattle.std.proofs.lemmas.List.Sums.{sum_by_push}
-use Rattle.litmus_parts.specs.Form.{text_of_part, text_of_parts}
-use Rattle.litmus_parts.specs.declared.part.Part.{Part}
+use Rattle.litmus_rounds.specs.PartForm.{text_of_part, text_of_parts}
+use Rattle.litmus_rounds.specs.declared.part.Part.{Part}
 use Rattle.litmus_rounds.specs.Parts.{ArePrinted, AreParts, IsPartOf, IsPartWith, IsPrintedPart}
 use Rattle.litmus_rounds.specs.Parts.{PrintsParts, count_of_parts}
 use Rattle.litmus_rounds.specs.Run.{seed_of}

@@ -3,10 +3,10 @@ use Rattle.std.specs.Prelude.{◌≡◌, ◌≢◌, ℕ, ◌+◌, ◌≤◌, ◌
 use Rattle.litmus_outcomes.specs.Ended.{ended_behind, round_of}
 use Rattle.litmus_outcomes.specs.Table.{IsTableOf}
 use Rattle.litmus_outcomes.specs.declared.ended.Ended.TheVariants as ended_kinds
-use Rattle.litmus_parts.specs.declared.part.Part.{Part}
 use Rattle.litmus_rounds.specs.Parts.{IsPartOf, count_of_parts}
 use Rattle.litmus_rounds.specs.Run.{HaveEnded, seed_of}
 use Rattle.litmus_rounds.specs.declared.merge.Merged.{Merged}
+use Rattle.litmus_rounds.specs.declared.part.Part.{Part}
 use Rattle.litmus_test.specs.declared.test.LitmusTest.{LitmusTest}
 use Rattle.mshr_file.specs.Miss.{Bound}
 

@@ -3,9 +3,9 @@ use Rattle.std.specs.Prelude.{◌≡◌, ◌≢◌, ◌⊎◌, ℕ, ◌<◌, ◌
 use Rattle.std.specs.Io.KnownBytes.{Appends}
 use Rattle.litmus_outcomes.specs.declared.ended.Ended.{Ended}
 use Rattle.litmus_outcomes.specs.declared.ended.Ended.TheVariants as ended_kinds
-use Rattle.litmus_parts.specs.Form.{text_of_part, text_of_parts}
-use Rattle.litmus_parts.specs.declared.part.Part.{Part}
+use Rattle.litmus_rounds.specs.PartForm.{text_of_part, text_of_parts}
 use Rattle.litmus_rounds.specs.Run.{HaveEnded, seed_of}
+use Rattle.litmus_rounds.specs.declared.part.Part.{Part}
 use Rattle.litmus_test.specs.declared.test.LitmusTest.{LitmusTest}
 use Rattle.mshr_file.specs.Miss.{Bound}
 

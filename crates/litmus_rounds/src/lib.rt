@@ -7,18 +7,31 @@
 //! - src/batch.rt: stretches side by side, whose tables are put together in the order of their rounds. So the table is
 //!   that of one round after another, however many jobs walk.
 //! - src/run.rt: all rounds, and what is printed of them.
+//! - src/part.rt: a part of a walk, the table of consecutive rounds and how they ended, so that a walk can be shared out
+//!   among machines. src/part_form.rt writes one as a text (`text_of_part` of specs/PartForm.antt): a first line with the
+//!   format, the version of the program, the sum of the test's text ([`sum_of`]), the limit of moves, the first seed and
+//!   how many rounds there are; then a line for each outcome; and a last line, so that a part that is cut off is known as
+//!   such. Texts can stand one after another. src/part_read.rt reads them; what it reads is spelled so, byte for byte.
 //! - src/parts.rt: a walk printed in parts (specs/Parts.antt), and src/merge.rt: parts put together (specs/Merge.antt). Where
 //!   no round is missing they come to what one walk of all rounds comes to.
 #![tactic(auto)]
 
-pub use litmus_parts::{Found, Gap, Part, PartFault, read_parts, sum_of};
 pub use merge::{Merged, Parts, print_merged};
+pub use part::{Gap, Part};
+pub use part_fault::PartFault;
+pub use part_read::{Found, read_parts};
 pub use parts::{PART_ROUNDS, first_other, print_parts};
 pub use run::{processors, run_walk};
+pub use sum::sum_of;
 
 mod batch;
 mod merge;
 mod outcome;
+mod part;
+mod part_fault;
+mod part_form;
+mod part_read;
 mod parts;
 mod run;
 mod stretch;
+mod sum;

@@ -2,17 +2,19 @@
 ghost use Rattle.std.specs.Prelude.{◌≡◌, ◌+◌, ◌≤◌, ◌<◌, ◌^◌, List, [], ◌∷◌, ◌++◌, All, IfErr, IfOk, IsTrue, OnOk};
 ghost use Rattle.std.specs.Prelude.{IsPermutation, map};
 ghost use Rattle.litmus_outcomes.specs.Ended.{round_of};
-ghost use Rattle.litmus_parts.specs.declared.part.Part.{Part};
 ghost use Rattle.litmus_rounds.specs.Merge.{AddsRounds, IsMergeOf, MayFollow, MissesTo};
 ghost use Rattle.litmus_rounds.specs.Parts.{IsPartOf};
 ghost use Rattle.litmus_rounds.specs.Run.{HaveEnded, PrintsWalks};
+ghost use Rattle.litmus_rounds.specs.declared.part.Part.{Part};
 ghost use Rattle.litmus_script.specs.Play.{IsOfRun};
 ghost use Rattle.litmus_test.specs.declared.test.LitmusTest.{LitmusTest};
 ghost use Rattle.mshr_file.specs.Miss.{Bound};
 
+use super::part::{Gap, Part};
+use super::part_fault::PartFault;
+use super::part_read::{Found, read_parts};
 use super::run::print_ended;
 use litmus_outcomes::{Ended, OutcomeForm, Outcomes};
-use litmus_parts::{Found, Gap, Part, PartFault, read_parts};
 use litmus_test::LitmusTest;
 use litmus_text::TextFault;
 use std::alloc::{AllocError, Global};

@@ -1,14 +1,15 @@
 //! A walk in parts, each printed as soon as its rounds are over.
 ghost use Rattle.std.specs.Prelude.{◌≡◌, ◌<◌, ◌^◌, [], All, IfErr, IfOk, IfSome, IsTrue, None, OnOk};
 ghost use Rattle.std.specs.Io.KnownBytes.{Appends, Keeps};
-ghost use Rattle.litmus_parts.specs.Form.{text_of_part};
+ghost use Rattle.litmus_rounds.specs.PartForm.{text_of_part};
 ghost use Rattle.litmus_rounds.specs.Parts.{IsPartOf, IsPartWith, IsPrintedPart, PrintsParts};
 ghost use Rattle.mshr_file.specs.Miss.{bound_of};
 ghost use Rattle.litmus_script.specs.Play.{IsOfRun};
 
 use super::batch::walk_batches;
+use super::part::Part;
+use super::part_form::push_part;
 use litmus_outcomes::{Ended, Outcomes};
-use litmus_parts::{Part, push_part};
 use litmus_test::{LitmusTest, Progress, Silent};
 use litmus_text::TextFault;
 use stats_report::write_text;

@@ -1,6 +1,6 @@
 ghost use Rattle.std.specs.Prelude.{◌≡◌, IfOk, IfSome};
-ghost use Rattle.receipt_shares.specs.Names.{AreLedgersOf};
 ghost use Rattle.litmus_threads.specs.Round.{IsRoundOf};
+ghost use Rattle.receipt_ledger.specs.Names.{AreLedgersOf};
 
 use super::crew::Crew;
 use super::made::have_made_all;

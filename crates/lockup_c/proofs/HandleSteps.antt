@@ -31,9 +31,9 @@ use Rattle.std.specs.Prelude.{Option, Some, None}
 use Rattle.std_heap.proofs.Global.TheLaws as global_laws
 use Rattle.std_heap.specs.contracts.Global as Global-type
 use Rattle.std_heap.specs.contracts.GlobalAllocator.TheImpl.{ghosts, dict}
-use Rattle.boxed_parts.specs.contracts.parts.BoxedParts as Parts-type
 use Rattle.lockup_c.proofs.held.Held.TheLaws as held_laws
 use Rattle.lockup_c.specs.Owner.{owned_at}
+use Rattle.lockup_c.specs.contracts.boxed_parts.BoxedParts as Parts-type
 use Rattle.lockup_c.specs.contracts.handle.Handle as Handle-type
 use Rattle.lockup_c.specs.contracts.held.Held as Held-type
 

@@ -3,8 +3,8 @@ ghost use Rattle.std.specs.Prelude.{◌≡◌, IfNone, IfSome, Option, None, Som
 ghost use Rattle.lockup_c.specs.Owner.{owned_coded};
 ghost use Rattle.lockup_c.specs.declared.held.Held.{Held};
 
+use super::boxed_parts::BoxedParts;
 use super::held::Held;
-use boxed_parts::BoxedParts;
 use std::alloc::Global;
 use std::marker::Model;
 use std::mem::replace;

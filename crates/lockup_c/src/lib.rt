@@ -5,14 +5,16 @@
 //! numbers name (specs/Named.antt), with the numbers of the answer (specs/Number.antt, specs/Numbers.antt). A code other
 //! than 0 leaves what the handle has.
 //!
-//! A [`handle::Handle`] owns a box at its pointer, or is null (specs/Owner.antt). Three functions reach the pointer, and
-//! are proved by hand; C passes nothing for a parameter of type `Global`.
+//! A [`handle::Handle`] owns a box at its pointer, or is null (specs/Owner.antt); src/boxed_parts.rt takes the box apart
+//! and puts it together again. Five functions reach the pointer, three of the handle and two of the box, and are proved
+//! by hand; C passes nothing for a parameter of type `Global`.
 #![tactic(auto)]
 
 pub use handle::Handle;
 pub use held::Held;
 pub use histories::JudgedHistories;
 
+mod boxed_parts;
 mod cells;
 mod check;
 mod codes;

@@ -15,3 +15,4 @@ pub mod TidyLemmas
 pub mod Totals
 pub mod UsageLemmas
 pub mod WaitLemmas
+pub mod WordSets

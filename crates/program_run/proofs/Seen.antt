@@ -10,16 +10,16 @@ use Rattle.address_map.specs.declared.address.CoreId.{CoreId}
 use Rattle.address_map.specs.declared.address.LineAddr.{LineAddr}
 use Rattle.address_map.specs.declared.address.WordAddr.{WordAddr}
 use Rattle.address_map.specs.declared.config.Config.{Config}
-use Rattle.miss_cause.specs.Cause.{cause_of, fate_of}
-use Rattle.miss_cause.specs.Memory.{HasPlace, Recalls}
-use Rattle.miss_cause.specs.declared.cause.Cause.{Cause}
-use Rattle.miss_cause.specs.declared.cause.Event.{Event}
-use Rattle.miss_cause.specs.declared.cause.Event.TheVariants as events
-use Rattle.miss_cause.specs.declared.cause.Fate.{Fate}
-use Rattle.miss_cause.specs.declared.cause.Fate.TheVariants as fates
+use Rattle.program_run.specs.Cause.{cause_of, fate_of}
 use Rattle.program_run.specs.History.{History, HasSeen, after_miss, after_count, has_line, has_place, is_held}
 use Rattle.program_run.specs.History.{after_event}
+use Rattle.program_run.specs.Memory.{HasPlace, Recalls}
 use Rattle.program_run.specs.Tally.{TallyView, tally_after, tally_with}
+use Rattle.program_run.specs.declared.cause.Cause.{Cause}
+use Rattle.program_run.specs.declared.cause.Event.{Event}
+use Rattle.program_run.specs.declared.cause.Event.TheVariants as events
+use Rattle.program_run.specs.declared.cause.Fate.{Fate}
+use Rattle.program_run.specs.declared.cause.Fate.TheVariants as fates
 use Rattle.program_run.specs.declared.observer.Observer.{Observer}
 use Rattle.program_run.specs.declared.tally.Counted.{Counted}
 use Rattle.program_run.specs.declared.tally.Counted.TheVariants as counted_kinds

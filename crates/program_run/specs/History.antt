@@ -8,12 +8,12 @@ use Rattle.address_map.specs.declared.address.WordAddr.{WordAddr}
 use Rattle.address_map.specs.declared.config.Config.{Config}
 use Rattle.address_map.specs.declared.request.Op.{Op}
 use Rattle.address_map.specs.declared.request.Op.TheVariants as ops
-use Rattle.miss_cause.specs.Cause.{cause_of, fate_of}
-use Rattle.miss_cause.specs.Memory.{Recalls}
-use Rattle.miss_cause.specs.declared.cause.Event.{Event}
-use Rattle.miss_cause.specs.declared.cause.Event.TheVariants as events
-use Rattle.miss_cause.specs.declared.cause.Fate.{Fate}
-use Rattle.miss_cause.specs.declared.cause.Fate.TheVariants as fates
+use Rattle.program_run.specs.Cause.{cause_of, fate_of}
+use Rattle.program_run.specs.Memory.{Recalls}
+use Rattle.program_run.specs.declared.cause.Event.{Event}
+use Rattle.program_run.specs.declared.cause.Event.TheVariants as events
+use Rattle.program_run.specs.declared.cause.Fate.{Fate}
+use Rattle.program_run.specs.declared.cause.Fate.TheVariants as fates
 use Rattle.slice_answer.specs.declared.answer.Stall.{Stall}
 use Rattle.slice_log.specs.declared.entry.Entry.{Entry}
 use Rattle.slice_queues_message.specs.declared.channel.Pick.{Pick}

@@ -1,9 +1,11 @@
 pub mod Calls
+pub mod Cause
 pub mod Column
 pub mod Front
 pub mod History
 pub mod Json
 pub mod Kept
+pub mod Memory
 pub mod Register
 pub mod Report
 pub mod Run

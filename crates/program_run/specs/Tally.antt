@@ -2,8 +2,8 @@
 use Rattle.std.specs.Prelude.{ℕ, ◌+◌, List, [], ◌∷◌, Option, None, Some, replicate, slice_index_or, slice_set, sum_by}
 use Rattle.address_map.specs.declared.address.CoreId.{CoreId}
 use Rattle.address_map.specs.declared.address.LineAddr.{LineAddr}
-use Rattle.miss_cause.specs.declared.cause.Cause.{Cause}
-use Rattle.miss_cause.specs.declared.cause.Cause.TheVariants as causes
+use Rattle.program_run.specs.declared.cause.Cause.{Cause}
+use Rattle.program_run.specs.declared.cause.Cause.TheVariants as causes
 use Rattle.slice_answer.specs.Stats.{next_count, no_messages, one_more_message}
 use Rattle.slice_answer.specs.declared.answer.Stall.{Stall}
 use Rattle.slice_answer.specs.declared.answer.Stall.TheVariants as stalls

@@ -14,7 +14,9 @@
 //!   as it holds (specs/Kept.antt); src/front.rt: the next delivery of a slice, without a look at lines that were seen to
 //!   be idle (specs/Front.antt). src/owed.rt: the deliveries that slices have still to make after an access.
 //! - src/observer.rt: what is seen of each call: what becomes of the cores' copies, and what is counted
-//!   (specs/History.antt). A miss is counted under its cause (`miss_cause`).
+//!   (specs/History.antt).
+//! - src/memory.rt: what has to be known of these events to tell why an access missed, as architects count misses; a miss
+//!   is counted under its cause, a function of the events alone (src/cause.rt, specs/Cause.antt).
 //! - src/tally.rt: the counts, for each core and for each line (specs/Tally.antt).
 //! - src/usage.rt: how many miss registers and targets are in use, move by move (specs/Usage.antt).
 //! - src/report.rt and src/json.rt write what was counted (specs/Report.antt, specs/Json.antt); src/column.rt has the
@@ -38,10 +40,12 @@ pub use tally::Counts;
 pub use usage::Usage;
 
 mod calls;
+mod cause;
 mod column;
 mod front;
 mod json;
 mod kept;
+mod memory;
 mod moves;
 mod observer;
 mod owed;

@@ -21,9 +21,10 @@ ghost use Rattle.program_run.specs.History.{
   writes,
 };
 
+use super::cause::Event;
+use super::memory::Memory;
 use super::tally::{Counted, Tally};
 use address_map::{Checked, CoreId, LineAddr, Op, WordAddr};
-use miss_cause::{Event, Memory};
 use slice_answer::Stall;
 use slice_core::{Entry, ForwardedMessage, Message, Pick};
 use std::alloc::{AllocError, Global};

@@ -19,8 +19,8 @@ ghost use Rattle.slice_answer.specs.Stats.{one_more_message};
 ghost use Rattle.slice_queues_message.specs.Pick.{channel_of};
 ghost use Rattle.stats_report.specs.Report.{sum_of};
 
+use super::cause::Cause;
 use address_map::{Checked, CoreId, LineAddr};
-use miss_cause::Cause;
 use slice_answer::{MessageCounts, Stall};
 use slice_queues_message::Pick;
 use std::alloc::{AllocError, Global};

@@ -15,7 +15,7 @@ use Rattle.receipt_ledger.proofs.Picked.{one_if}
 use Rattle.receipt_ledger.proofs.Targets.{one-target, target-counted, target-found}
 use Rattle.receipt_ledger.specs.Accepted.{AcceptedAreTheCores, accepted_by}
 use Rattle.receipt_ledger.specs.Counted.{AreMarked}
-use Rattle.receipt_shares.specs.Totals.{Totals}
+use Rattle.receipt_ledger.specs.Totals.{Totals}
 use Rattle.slice_core.specs.Facts.{IsStanding}
 use Rattle.slice_core_cache.specs.CoreCache.{CoreCacheView}
 use Rattle.slice_core_theory.proofs.Kept.{same_core}

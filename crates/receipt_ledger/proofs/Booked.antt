@@ -9,9 +9,9 @@ use Rattle.receipt_ledger.proofs.Counts.{accept-counted, hand-counted, new-count
 use Rattle.receipt_ledger.proofs.Marks.{OneMore, handed_out-marked, handed_out-waiting}
 use Rattle.receipt_ledger.specs.Booked.{IsBooked, IsServed}
 use Rattle.receipt_ledger.specs.Counted.{handed_out}
-use Rattle.receipt_shares.proofs.Totals.{together_assoc, totals_accepted, totals_append, totals_cons, totals_nil}
+use Rattle.receipt_ledger.proofs.Totals.{together_assoc, totals_accepted, totals_append, totals_cons, totals_nil}
 use Rattle.address_map.specs.Place.{counters_of}
-use Rattle.receipt_shares.specs.Totals.{Totals, nothing, only_accepted, only_handed, together, totals}
+use Rattle.receipt_ledger.specs.Totals.{Totals, nothing, only_accepted, only_handed, together, totals}
 use Rattle.slice_log.proofs.Pushes.{slice_get-push}
 use Rattle.slice_log.specs.declared.entry.Entry.{Entry}
 use Rattle.slice_core_theory.specs.SmallMachine.{Asked, Can, IsSame, SmallMachine, Run, accept, after, entry_for, hand}

@@ -3,11 +3,11 @@ use Rattle.std.proofs.Common.{◌≡◌, ℕ, ◌+◌, ◌<◌, List, [], ◌∷
 use Rattle.std.proofs.Common.{zero-add}
 use Rattle.std.proofs.lemmas.List.{drop_more, map-append, take_more}
 use Rattle.address_map.specs.declared.address.WordAddr.{WordAddr}
+use Rattle.receipt_ledger.proofs.Totals.{together_assoc, together_cancel, together_comm, together_nothing}
+use Rattle.receipt_ledger.proofs.Totals.{totals_accepted, totals_cons, totals_nil, totals_push, within_together}
 use Rattle.receipt_ledger.specs.Port.{entries_of}
+use Rattle.receipt_ledger.specs.Totals.{IsWithin, Totals, nothing, only_accepted, only_handed, together, totals}
 use Rattle.receipt_ledger.specs.declared.receipt.Receipt.{Receipt}
-use Rattle.receipt_shares.proofs.Totals.{together_assoc, together_cancel, together_comm, together_nothing}
-use Rattle.receipt_shares.proofs.Totals.{totals_accepted, totals_cons, totals_nil, totals_push, within_together}
-use Rattle.receipt_shares.specs.Totals.{IsWithin, Totals, nothing, only_accepted, only_handed, together, totals}
 
 -- the second and the third change places
 swapped : (t u v : Totals) → together (together t u) v ≡ together (together t v) u

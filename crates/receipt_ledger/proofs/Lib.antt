@@ -1,6 +1,7 @@
 pub mod Accepted
 pub mod Booked
 pub mod Compared
+pub mod CounterWords
 pub mod Counts
 pub mod Gathered
 pub mod History
@@ -12,12 +13,15 @@ pub mod New
 pub mod Numbered
 pub mod Picked
 pub mod Placed
+pub mod Places
 pub mod Ports
 pub mod Quiet
 pub mod Removed
 pub mod Settled
 pub mod Streaks
+pub mod Sums
 pub mod Targets
 pub mod Tied
 pub mod Times
+pub mod Totals
 pub mod Values

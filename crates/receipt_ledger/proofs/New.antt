@@ -11,7 +11,7 @@ use Rattle.slice_core.specs.Shape.{shape_of}
 use Rattle.slice_answer.specs.Stats.{StatsView}
 use Rattle.slice_core_cache.specs.CoreCache.{new_cache}
 use Rattle.slice_core_cache.specs.declared.copy.CacheCopy.{CacheCopy}
-use Rattle.receipt_shares.specs.Totals.{nothing}
+use Rattle.receipt_ledger.specs.Totals.{nothing}
 use Rattle.slice_core_theory.specs.SmallMachine.{IsSame, new_small_machine}
 use Rattle.slice_core_theory.specs.Shows.{small_machine_of}
 use Rattle.slice_core_plan.specs.Calls.{IsNew, PartsView}

@@ -11,9 +11,9 @@ use Rattle.address_map.specs.declared.request.Request.{Request}
 use Rattle.receipt_ledger.specs.Port.{AreFreshPorts, HasRoom, IsOwn, IsPort, IsWithRoom, PortView, Room, entries_of}
 use Rattle.receipt_ledger.specs.Port.{fresh_port, held_by, seen_of, with_receipt, with_request}
 use Rattle.receipt_ledger.specs.declared.receipt.Receipt.{Receipt}
-use Rattle.receipt_shares.proofs.Totals.{totals_accepted, totals_nil, totals_push}
+use Rattle.receipt_ledger.proofs.Totals.{totals_accepted, totals_nil, totals_push}
 use Rattle.address_map.specs.Place.{counters_of}
-use Rattle.receipt_shares.specs.Totals.{Amounts, Totals, nothing, only_accepted, only_handed, together, totals}
+use Rattle.receipt_ledger.specs.Totals.{Amounts, Totals, nothing, only_accepted, only_handed, together, totals}
 use Rattle.slice_log.proofs.Pushes.{slice_get-push}
 
 -- amounts are their two parts

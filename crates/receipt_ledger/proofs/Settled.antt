@@ -25,11 +25,11 @@ use Rattle.receipt_ledger.specs.Port.{PortView, entries_of}
 use Rattle.receipt_ledger.specs.History.{AreHeld, receipts_in}
 use Rattle.receipt_ledger.specs.Settled.{IsSettled, accepted_in, held_in}
 use Rattle.receipt_ledger.specs.declared.receipt.Receipt.{Receipt}
-use Rattle.receipt_shares.proofs.CounterWords.{counters_allowed}
-use Rattle.receipt_shares.proofs.Totals.{totals_append, totals_nil}
-use Rattle.receipt_shares.proofs.Sums.{at_sums}
-use Rattle.receipt_shares.specs.Sums.{at, sums}
-use Rattle.receipt_shares.specs.Totals.{Totals, together, totals}
+use Rattle.receipt_ledger.proofs.CounterWords.{counters_allowed}
+use Rattle.receipt_ledger.proofs.Totals.{totals_append, totals_nil}
+use Rattle.receipt_ledger.proofs.Sums.{at_sums}
+use Rattle.receipt_ledger.specs.Sums.{at, sums}
+use Rattle.receipt_ledger.specs.Totals.{Totals, together, totals}
 use Rattle.slice_log.specs.Log.{IsLegal, IsOrdered, initially, named, value}
 use Rattle.slice_log.specs.declared.entry.Entry.{Entry}
 use Rattle.slice_core_theory.specs.SmallMachine.{Asked}

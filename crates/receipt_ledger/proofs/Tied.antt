@@ -15,7 +15,7 @@ use Rattle.receipt_ledger.specs.Booked.{IsServed, IsTied}
 use Rattle.receipt_ledger.specs.Port.{IsEntryOf}
 use Rattle.receipt_ledger.specs.Slice.{IsBuiltAs, IsSliceOf}
 use Rattle.address_map.specs.Place.{counters_of, is_of_slice}
-use Rattle.receipt_shares.specs.Totals.{Totals, only_accepted, only_handed, together}
+use Rattle.receipt_ledger.specs.Totals.{Totals, only_accepted, only_handed, together}
 use Rattle.slice_core.specs.Facts.{IsSameSlice}
 use Rattle.slice_answer.specs.declared.answer.Issue.{Issue}
 use Rattle.slice_answer.specs.declared.answer.Issue.TheVariants as issues

@@ -2,7 +2,7 @@
 use Rattle.std.specs.Prelude.{◌≡◌, ℕ, ◌+◌, List, [], ◌∷◌}
 use Rattle.address_map.specs.declared.config.Config.{Config}
 use Rattle.receipt_ledger.specs.Booked.{IsTied}
-use Rattle.receipt_shares.specs.Totals.{Totals}
+use Rattle.receipt_ledger.specs.Totals.{Totals}
 use Rattle.slice_core.specs.Facts.{Holds}
 use Rattle.slice_core_cache.specs.CoreCache.{CoreCacheView}
 use Rattle.slice_core_plan.specs.Calls.{PartsView}

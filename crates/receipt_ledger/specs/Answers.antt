@@ -13,7 +13,7 @@ use Rattle.receipt_ledger.specs.declared.receipt.Answer.{Answer}
 use Rattle.receipt_ledger.specs.declared.receipt.Answer.TheVariants as answers
 use Rattle.receipt_ledger.specs.declared.receipt.Receipt.{Receipt}
 use Rattle.address_map.specs.Place.{counters_of, is_of_slice}
-use Rattle.receipt_shares.specs.Totals.{Totals, only_accepted, only_handed, together}
+use Rattle.receipt_ledger.specs.Totals.{Totals, only_accepted, only_handed, together}
 use Rattle.slice_answer.specs.declared.answer.Issue.{Issue}
 use Rattle.slice_answer.specs.declared.answer.Issue.TheVariants as issues
 use Rattle.slice_answer.specs.declared.answer.Refused.{Refused}

@@ -7,7 +7,7 @@ use Rattle.address_map.specs.declared.request.Op.{Op}
 use Rattle.receipt_ledger.specs.Counted.{AreMarked, handed_out}
 use Rattle.receipt_ledger.specs.Slice.{IsSliceOf}
 use Rattle.address_map.specs.Place.{counters_of, is_of_slice}
-use Rattle.receipt_shares.specs.Totals.{Totals, totals}
+use Rattle.receipt_ledger.specs.Totals.{Totals, totals}
 use Rattle.slice_log.specs.declared.entry.Entry.{Entry}
 use Rattle.slice_core_theory.specs.SmallMachine.{Asked, SmallMachine}
 use Rattle.slice_core_theory.specs.Shows.{small_machine_of}

@@ -5,6 +5,9 @@ pub mod Booked
 pub mod Counted
 pub mod History
 pub mod Kept
+pub mod Names
 pub mod Port
 pub mod Settled
 pub mod Slice
+pub mod Sums
+pub mod Totals

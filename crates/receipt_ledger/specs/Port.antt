@@ -7,7 +7,7 @@ use Rattle.address_map.specs.declared.request.Request.{Request}
 use Rattle.receipt_ledger.specs.declared.receipt.Ask.{Ask}
 use Rattle.receipt_ledger.specs.declared.receipt.Receipt.{Receipt}
 use Rattle.address_map.specs.Place.{counters_of, is_of_slice}
-use Rattle.receipt_shares.specs.Totals.{Amounts, Totals, totals}
+use Rattle.receipt_ledger.specs.Totals.{Amounts, Totals, totals}
 use Rattle.slice_log.specs.declared.entry.Entry.{Entry}
 
 -- how many requests and how many receipts a port can hold, whatever becomes of them, before a list has to grow

@@ -6,7 +6,7 @@ use Rattle.address_map.specs.declared.config.Config.{Config}
 use Rattle.receipt_ledger.specs.History.{AreHistory, receipts_in}
 use Rattle.receipt_ledger.specs.Port.{PortView, entries_of, held_by}
 use Rattle.address_map.specs.Place.{counters_of}
-use Rattle.receipt_shares.specs.Totals.{Totals, nothing, together}
+use Rattle.receipt_ledger.specs.Totals.{Totals, nothing, together}
 use Rattle.slice_log.specs.Log.{IsLegal, IsOrdered, initially, named, value}
 use Rattle.slice_core_plan.specs.View.{View}
 

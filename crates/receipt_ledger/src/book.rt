@@ -7,16 +7,17 @@ ghost use Rattle.receipt_ledger.specs.Booked.{IsTied};
 ghost use Rattle.receipt_ledger.specs.History.{request_of};
 ghost use Rattle.receipt_ledger.specs.Port.{HasRoom, IsEntryOf, with_request, with_seen};
 ghost use Rattle.address_map.specs.Place.{counters_of};
-ghost use Rattle.receipt_shares.specs.Totals.{only_accepted, together};
+ghost use Rattle.receipt_ledger.specs.Totals.{only_accepted, together};
 ghost use Rattle.slice_core.specs.Facts.{IsSameSlice};
 ghost use Rattle.slice_log.specs.declared.entry.Entry.{Entry};
 ghost use Rattle.slice_core_theory.specs.Shows.{Leads, issue_steps, next_of};
 
+use super::names::SliceNames;
 use super::port::{Port, entry_at};
 use super::receipt::{Answer, LearnError, Receipt};
+use super::shares::Books;
 use address_map::{Request, SliceId, WordAddr};
 use mshr_file::MissFile;
-use receipt_shares::{Books, SliceNames};
 use slice_answer::{Issue, Refused};
 use slice_core::SliceState;
 use slice_log::Entry;
@@ -33,12 +34,12 @@ pub struct Book<N: SliceNames> {
 }
 
 impl<N: SliceNames> Model for Book<N> {
-    ghost use Rattle.receipt_shares.specs.Totals.{Totals};
+    ghost use Rattle.receipt_ledger.specs.Totals.{Totals};
 
     ghost Value = { Totals };
 
     ghost use Rattle.std.specs.Box.{boxed_slice_items};
-    ghost use Rattle.receipt_shares.specs.Names.{AreCounters};
+    ghost use Rattle.receipt_ledger.specs.Names.{AreCounters};
 
     ghost view = { λ b. b.books };
 

@@ -1,14 +1,15 @@
 ghost use Rattle.std.specs.Prelude.{◌≡◌, ◌+◌, ◌<◌, ℕ, length, map, ◌∷◌};
+ghost use Rattle.receipt_ledger.specs.Names.{AreCounters};
 ghost use Rattle.receipt_ledger.specs.Port.{entries_of};
 ghost use Rattle.receipt_ledger.specs.Settled.{held_in};
-ghost use Rattle.receipt_shares.specs.Names.{AreCounters};
-ghost use Rattle.receipt_shares.specs.Totals.{Totals, nothing, together, totals};
+ghost use Rattle.receipt_ledger.specs.Totals.{Totals, nothing, together, totals};
 
 use super::lends::Lends;
+use super::names::SliceNames;
 use super::port::Port;
 use super::receipt::Receipt;
+use super::shares::{Books, Shares};
 use address_map::WordAddr;
-use receipt_shares::{Books, Shares, SliceNames};
 
 // Compares the books with what a share and these ports hold together, where they have all parts between them. Each gets
 // back what it had.

@@ -4,10 +4,10 @@ ghost use Rattle.receipt_ledger.specs.History.{AreHeld, HasAsked, HasReceipt, Is
 
 use super::account::request_of;
 use super::lends::Lends;
+use super::names::SliceNames;
 use super::port::Port;
 use super::receipt::{Ask, Receipt};
 use address_map::SliceId;
-use receipt_shares::SliceNames;
 use slice_log::Entry;
 
 // Whether each entry of the log is held by the port of its core, as it was asked for.

@@ -1,11 +1,13 @@
 ghost use Rattle.std.specs.Prelude.{◌≡◌, ◌≤◌, IfOk};
+ghost use Rattle.receipt_ledger.specs.Names.{AreLedgersOf};
 ghost use Rattle.receipt_ledger.specs.Port.{AreFreshPorts};
-ghost use Rattle.receipt_shares.specs.Names.{AreLedgersOf};
 
+use super::blanks::Blanks;
+use super::names::SliceNames;
 use super::open::cut_ports;
 use super::port::Port;
+use super::shares::Books;
 use address_map::SliceId;
-use receipt_shares::{Blanks, Books, SliceNames};
 use std::alloc::{AllocError, Global};
 
 impl<N: SliceNames> Port<N> {

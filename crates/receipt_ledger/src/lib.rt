@@ -2,9 +2,16 @@
 //!
 //! A [`Port`] is that through which one core asks one slice: it counts the requests that were accepted, and keeps a
 //! [`Receipt`] of each one that was handed out. A [`Book`] lies beside the slice's state and has the totals of all its
-//! ports. Each port holds a share of every total (`receipt_shares`), and a share moves only with the book, so what the
-//! ports hold together is what the slice accepted and handed out: no request is lost, doubled or made up, and no sum of
-//! a counter is off.
+//! ports. Each port holds a share of every total, and a share moves only with the book, so what the ports hold together
+//! is what the slice accepted and handed out: no request is lost, doubled or made up, and no sum of a counter is off.
+//!
+//! A slice counts three things: the requests accepted, those handed out, and for each of its counters the whole-number
+//! sum of what these added. Each count is a ledger of std's `sync::ledger`, ten in all. A [`Books`] has the totals, and
+//! each port has a [`Shares`], which takes no bytes: `Books::accept` and `Books::hand` change both, so the shares of all
+//! ports add up to the books, as `Books::audit` says. Which ledgers these are, and of which slice of which configuration,
+//! is named by the type ([`SliceNames`]). Contracts see a `Books` as its `Totals` and a `Shares` as its `Amounts`
+//! (`specs/Totals.antt`). No call of these takes memory, and none does anything at run time but finding the place of a
+//! word.
 //!
 //! - [`Book::open`] makes a slice, its book and a port for each core; [`Port::idle_ports`] makes ports for a slice that
 //!   isn't there.
@@ -24,20 +31,28 @@
 //! ([`accepted_are_the_cores_own`]).
 #![tactic(auto)]
 
+pub use blanks::Blanks;
 pub use book::Book;
 pub use laws::{accepted_are_the_cores_own, deliveries_keep_the_book};
 pub use lends::{Alone, Lends};
+pub use names::{Led, SliceNames};
 pub use port::Port;
 pub use receipt::{Answer, Ask, LearnError, Receipt};
+pub use shares::{Books, Shares};
 
 mod account;
+mod blanks;
 mod book;
+mod counters;
 mod gather;
 mod held;
 mod idle;
 mod laws;
 mod lends;
+mod names;
 mod open;
+mod place;
 mod port;
 mod receipt;
 mod settle;
+mod shares;

@@ -1,17 +1,19 @@
 ghost use Rattle.std.specs.Prelude.{◌≡◌, ◌<◌, ◌≤◌, IfOk};
 ghost use Rattle.receipt_ledger.specs.Booked.{IsTied};
 ghost use Rattle.receipt_ledger.specs.Port.{AreFreshPorts};
-ghost use Rattle.receipt_shares.specs.Names.{AreLedgersOf};
-ghost use Rattle.receipt_shares.specs.Totals.{nothing};
+ghost use Rattle.receipt_ledger.specs.Names.{AreLedgersOf};
+ghost use Rattle.receipt_ledger.specs.Totals.{nothing};
 ghost use Rattle.slice_core_theory.specs.SmallMachine.{IsSame, new_small_machine};
 ghost use Rattle.slice_core_theory.specs.Shows.{small_machine_of};
 ghost use Rattle.slice_core_plan.specs.Calls.{IsNew};
 
+use super::blanks::Blanks;
 use super::book::Book;
+use super::names::SliceNames;
 use super::port::Port;
+use super::shares::{Books, Shares};
 use address_map::{Checked, CoreId, SliceId, counters_of};
 use mshr_file::MissFile;
-use receipt_shares::{Blanks, Books, Shares, SliceNames};
 use slice_core::SliceState;
 use std::alloc::{AllocError, Global};
 

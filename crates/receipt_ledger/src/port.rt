@@ -2,15 +2,16 @@ ghost use Rattle.std.specs.Prelude.{◌≡◌, ◌+◌, ◌<◌, ◌≤◌, true
 ghost use Rattle.std.specs.Prelude.{Some};
 ghost use Rattle.receipt_ledger.specs.Answers.{IsDone, IsGiven, IsLastOf};
 ghost use Rattle.receipt_ledger.specs.History.{request_of};
+ghost use Rattle.receipt_ledger.specs.Names.{AreCounters};
 ghost use Rattle.receipt_ledger.specs.Port.{AreOwn, HasRoom, IsEntryOf, IsWithRoom, fresh_port, with_request};
 ghost use Rattle.receipt_ledger.specs.Port.{with_seen};
-ghost use Rattle.receipt_shares.specs.Names.{AreCounters};
-ghost use Rattle.receipt_shares.specs.Totals.{nothing, only_accepted, together};
+ghost use Rattle.receipt_ledger.specs.Totals.{nothing, only_accepted, together};
 
 use super::account::Account;
+use super::names::SliceNames;
 use super::receipt::{Ask, Receipt};
+use super::shares::{Books, Shares};
 use address_map::{CoreId, Request, SliceId, WordAddr};
-use receipt_shares::{Books, Shares, SliceNames};
 use slice_log::Entry;
 use std::alloc::{AllocError, Global};
 use std::marker::Model;

@@ -4,7 +4,7 @@ ghost use Rattle.receipt_ledger.specs.History.{AreHeld};
 ghost use Rattle.receipt_ledger.specs.Port.{held_by};
 ghost use Rattle.receipt_ledger.specs.Settled.{held_in, IsSettled};
 ghost use Rattle.address_map.specs.Place.{counters_of};
-ghost use Rattle.receipt_shares.specs.Totals.{together};
+ghost use Rattle.receipt_ledger.specs.Totals.{together};
 ghost use Rattle.slice_log.specs.Log.{initially, value};
 ghost use Rattle.slice_core_plan.specs.View.{IsQuiet};
 
@@ -12,11 +12,11 @@ use super::book::Book;
 use super::gather::gather;
 use super::held::are_held;
 use super::lends::Lends;
+use super::names::SliceNames;
 use super::port::Port;
 use address_map::WordAddr;
 use arrayvec::ArrayVec;
 use mshr_file::MissFile;
-use receipt_shares::SliceNames;
 use slice_core::SliceState;
 
 impl<N: SliceNames> Book<N> {

@@ -5,7 +5,7 @@ use Rattle.address_map.specs.declared.config.Config.{Config}
 use Rattle.mshr_file.specs.Miss.{Bound}
 use Rattle.receipt_ledger.specs.Booked.{IsTied}
 use Rattle.receipt_ledger.specs.Slice.{IsSliceOf}
-use Rattle.receipt_shares.specs.Totals.{Totals}
+use Rattle.receipt_ledger.specs.Totals.{Totals}
 use Rattle.slice_core.specs.Facts.{Holds}
 use Rattle.slice_core_plan.specs.Calls.{PartsView}
 use Rattle.slice_core_plan.specs.View.{View, cache_at}

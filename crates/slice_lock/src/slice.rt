@@ -1,7 +1,7 @@
 ghost use Rattle.std.specs.Prelude.{◌≡◌, ◌<◌, ◌≤◌, length, map, IfErr, IfOk, None, OnErr, OnOk};
 ghost use Rattle.receipt_ledger.specs.Answers.{AfterReply, AfterRequest, IsJudged, IsShortOf};
+ghost use Rattle.receipt_ledger.specs.Names.{AreLedgersOf};
 ghost use Rattle.receipt_ledger.specs.Port.{AreFreshPorts, with_seen};
-ghost use Rattle.receipt_shares.specs.Names.{AreLedgersOf};
 ghost use Rattle.slice_core.specs.Facts.{Holds, IsNotBroken, IsNotBrokenNext};
 ghost use Rattle.slice_lock.specs.Booked.{IsShown};
 ghost use Rattle.slice_lock.specs.Settled.{AreSettled};
@@ -10,8 +10,7 @@ use super::booked::Booked;
 use address_map::{Checked, LineAddr, Request, SliceId};
 use arrayvec::ArrayVec;
 use mshr_file::MissFile;
-use receipt_ledger::{Answer, Book, LearnError, Lends, Port, Receipt};
-use receipt_shares::{Blanks, SliceNames};
+use receipt_ledger::{Answer, Blanks, Book, LearnError, Lends, Port, Receipt, SliceNames};
 use slice_answer::{Delivered, DeliveredNext, Evicted, Issue, Refused};
 use slice_core::SliceState;
 use slice_queues_message::{Class, Pick};

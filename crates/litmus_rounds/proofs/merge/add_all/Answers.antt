@@ -1,6 +1,6 @@
 use Rattle.std.proofs.Common.{ap, map, subst, sym, take, take_all, ◌∙◌, List, [], ◌∷◌, ◌++◌}
 use Rattle.std.proofs.lemmas.List.{map-append, take_more}
-use Rattle.litmus_parts.specs.declared.part.Part.{Part}
+use Rattle.litmus_rounds.specs.declared.part.Part.{Part}
 use Rattle.litmus_rounds.specs.Merge.{IsMergeOf}
 use Rattle.litmus_rounds.specs.declared.merge.Filed.{Filed}
 use Rattle.litmus_rounds.proofs.merge.add_all.Goals as goal

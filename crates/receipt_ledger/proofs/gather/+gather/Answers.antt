@@ -4,9 +4,9 @@ use Rattle.receipt_ledger.proofs.Ports.{amounts-same}
 use Rattle.receipt_ledger.specs.Port.{entries_of, held_by}
 use Rattle.receipt_ledger.specs.Settled.{held_in}
 use Rattle.receipt_ledger.specs.declared.receipt.Receipt.{Receipt}
-use Rattle.receipt_shares.proofs.Totals.{together_assoc, together_cancel, together_nothing}
+use Rattle.receipt_ledger.proofs.Totals.{together_assoc, together_cancel, together_nothing}
 use Rattle.address_map.specs.Place.{counters_of}
-use Rattle.receipt_shares.specs.Totals.{Amounts, together, totals}
+use Rattle.receipt_ledger.specs.Totals.{Amounts, together, totals}
 use Rattle.receipt_ledger.proofs.gather.+gather.Goals as goal
 
 pub gather-returns-in-None-clause-whole : goal.gather-returns-in-None-clause-whole

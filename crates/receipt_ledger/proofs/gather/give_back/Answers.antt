@@ -1,8 +1,8 @@
 use Rattle.std.proofs.Common.{ap, ◌∙◌, arith}
 use Rattle.std.proofs.lemmas.List.{get_or_default}
 use Rattle.receipt_ledger.proofs.Gathered.{gives-enough, gives-first, gives-more}
-use Rattle.receipt_shares.specs.Totals.{only_accepted, together}
 use Rattle.receipt_ledger.proofs.gather.give_back.Goals as goal
+use Rattle.receipt_ledger.specs.Totals.{only_accepted, together}
 
 pub loop-receipt-init : goal.loop-receipt-init
 loop-receipt-init g c = record {

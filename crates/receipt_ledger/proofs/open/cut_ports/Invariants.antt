@@ -1,6 +1,6 @@
 use Rattle.std.specs.Prelude.{◌≡◌, ◌+◌}
 use Rattle.receipt_ledger.specs.Port.{AreFreshPorts}
-use Rattle.receipt_shares.specs.Totals.{nothing}
+use Rattle.receipt_ledger.specs.Totals.{nothing}
 use Rattle.receipt_ledger.proofs.open.cut_ports.Given as goal
 
 abbrev pub invariant-loop-core : goal.invariant-loop-core

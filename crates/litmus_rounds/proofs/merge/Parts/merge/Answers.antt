@@ -1,7 +1,7 @@
 use Rattle.std.proofs.Common.{IsPermutation, subst, sym}
 use Rattle.std.proofs.lemmas.List.Elements.{All-map}
 use Rattle.std.proofs.lemmas.List.Sorted.{All-permutation}
-use Rattle.litmus_parts.specs.declared.part.Part.{Part}
+use Rattle.litmus_rounds.specs.declared.part.Part.{Part}
 use Rattle.litmus_rounds.specs.Parts.{IsPartOf}
 use Rattle.litmus_rounds.specs.declared.merge.Filed.{Filed}
 use Rattle.litmus_rounds.proofs.merge.Parts.merge.Goals as goal

@@ -2,9 +2,9 @@ use Rattle.std.proofs.Common.{subst, sym}
 use Rattle.std.specs.Box.{boxed_slice_items}
 use Rattle.receipt_ledger.proofs.New.{new-tied}
 use Rattle.receipt_ledger.specs.Booked.{IsTied}
-use Rattle.receipt_shares.proofs.CounterWords.{counters_allowed}
-use Rattle.receipt_shares.specs.Names.{AreCounters}
-use Rattle.receipt_shares.specs.Totals.{nothing}
+use Rattle.receipt_ledger.proofs.CounterWords.{counters_allowed}
+use Rattle.receipt_ledger.specs.Names.{AreCounters}
+use Rattle.receipt_ledger.specs.Totals.{nothing}
 use Rattle.receipt_ledger.proofs.book.Book.open.Goals as goal
 
 pub invariant_of-result : goal.invariant_of-result

@@ -2,7 +2,7 @@ use Rattle.std.proofs.Common.{[], ◌∷◌, ◌+◌, ◌≡◌, ◌∙◌, ap, 
 use Rattle.receipt_ledger.proofs.Ports.{receipt-port, request-port, room-port}
 use Rattle.receipt_ledger.specs.Port.{HasRoom, IsEntryOf, PortView, port_with, with_receipt, with_request}
 use Rattle.receipt_ledger.specs.declared.receipt.Receipt.{Receipt}
-use Rattle.receipt_shares.specs.Totals.{only_handed, together}
+use Rattle.receipt_ledger.specs.Totals.{only_handed, together}
 use Rattle.receipt_ledger.proofs.port.Port.perform.Goals as goal
 
 pub invariant_of-self : goal.invariant_of-self

@@ -2,7 +2,7 @@ use Rattle.std.proofs.Common.{◌<◌, ◌∙◌, ap, length, subst, sym}
 use Rattle.receipt_ledger.proofs.Ports.{receipt-port}
 use Rattle.receipt_ledger.specs.Port.{IsEntryOf, PortView}
 use Rattle.receipt_ledger.specs.declared.receipt.Receipt.{Receipt}
-use Rattle.receipt_shares.specs.Totals.{only_handed, together}
+use Rattle.receipt_ledger.specs.Totals.{only_handed, together}
 use Rattle.receipt_ledger.proofs.port.Port.receive.Goals as goal
 
 pub invariant_of-self : goal.invariant_of-self

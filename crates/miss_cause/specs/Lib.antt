@@ -1,2 +1,0 @@
-pub mod Cause
-pub mod Memory

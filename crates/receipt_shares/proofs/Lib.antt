@@ -1,4 +1,0 @@
-pub mod Sums
-pub mod Totals
-pub mod CounterWords
-pub mod Places

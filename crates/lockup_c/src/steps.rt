@@ -252,7 +252,7 @@ pub extern "C" fn lockup_begin_log(
 {
     match take(handle, alloc) {
         Some(mut held) => {
-            let code = begin_log(&mut held, slice, begun);
+            let code = begin_log(alloc, &mut held, slice, begun);
             put(handle, held);
             code
         }
@@ -263,7 +263,7 @@ pub extern "C" fn lockup_begin_log(
     }
 }
 
-fn begin_log(held: &mut Held, slice: u64, begun: &mut u64) -> u32
+fn begin_log(alloc: Global, held: &mut Held, slice: u64, begun: &mut u64) -> u32
     ensures { BeginsLogOf slice result begun.new (Some held.old) (Some held.new) }
 {
     let Held::Machine(simulator) = held else {
@@ -274,7 +274,7 @@ fn begin_log(held: &mut Held, slice: u64, begun: &mut u64) -> u32
         *begun = 0;
         return OUT_OF_RANGE;
     };
-    match simulator.begin_log(slice) {
+    match simulator.begin_log(alloc, slice) {
         Ok(is_quiet) => {
             *begun = flag(is_quiet);
             DONE

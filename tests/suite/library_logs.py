@@ -100,7 +100,7 @@ def numbers(counts: Any) -> Iterator[int]:
 
 def test_a_slice_that_is_not_quiet() -> None:
     """A miss that waits, a message, a reply or a write-back each keeps a slice from it, and the other slice isn't kept."""
-    with module().Machine(slices=2) as machine:
+    with module().Machine(**FIELDS) as machine:
         def kept(what: str) -> None:
             with machine.clone() as other:
                 same(what, False, machine.begin_log(0))

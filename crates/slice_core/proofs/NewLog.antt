@@ -82,7 +82,7 @@ kept-recounted cache kept = record {
   leaving = kept.leaving;
 }
 
-uncounted : (b : Bool) → b ≡ false → (if b then 1 else 0) ≡ 0
+uncounted : (b : Bool) → b ≡ false → ◌≡◌ {A = ℕ} (if b then 1 else 0) 0
 uncounted b fails = rw fails refl
 
 -- Where nothing waits and each reply was handed out, nothing is left to account for.

@@ -1,8 +1,9 @@
-ghost use Rattle.std.specs.Prelude.{◌≡◌, ◌/◌, ◌%◌, ◌<◌, ◌↔◌, length, All, IfErr, IfNone, IfOk, IfSome, IsTrue};
+ghost use Rattle.std.specs.Prelude.{◌≡◌, ◌/◌, ◌%◌, ◌<◌, ◌↔◌, [], length, All, IfErr, IfNone, IfOk, IfSome, IsTrue};
 ghost use Rattle.litmus_text.specs.Command.{IsInRange, HasCore, HasLine};
 ghost use Rattle.address_map.specs.Config.{IsAllowed};
 ghost use Rattle.stats_report.specs.Report.{AreAlike, views_of};
 ghost use Rattle.address_map.specs.Place.{line_of as line_of_word};
+ghost use Rattle.mshr_file.specs.Either.{either_bound, either_misses};
 ghost use Rattle.mshr_file.specs.Miss.{bound_of};
 ghost use Rattle.slice_core.specs.declared.run.Call.TheVariants as slice_calls;
 ghost use Rattle.slice_core.specs.declared.run.CallAnswer.TheVariants as call_answers;
@@ -64,11 +65,7 @@ impl Machine {
         ensures new { IfOk result (λ machine. IsNewMachine config (bound_of misses config) machine.slices.items) }
     {
         let empty = EitherFile::of_kind(alloc, &config, misses)?;
-        let mut slices = Vec::new(alloc);
-        for slice in 0..config.slices() {
-            let state = calls::build(alloc, &config, SliceId(slice as u8), &empty)?;
-            slices.push(state)?;
-        }
+        let slices = new_slices(alloc, &config, &empty)?;
         Ok(Machine {
             config,
             slices,
@@ -238,4 +235,23 @@ impl Machine {
             _ => (line.0 % slices) as usize,
         }
     }
+}
+
+/// Each slice of a new machine, whose cores keep their misses in files like this one, which has none.
+fn new_slices(
+    alloc: Global,
+    config: &Checked,
+    empty: &EitherFile,
+) -> Result<Vec<SliceState<EitherFile>>, TextFault>
+    requires { either_misses empty.now ≡ [] }
+    ensures machine { IfOk result (λ slices. IsMachine config.now slices.items) }
+    ensures new { IfOk result (λ slices. IsNewMachine config.now (either_bound empty.now) slices.items) }
+    ensures fault { IfErr result (λ fault. fault ≡ TextFault.NoMemory) }
+{
+    let mut slices = Vec::new(alloc);
+    for slice in 0..config.slices() {
+        let state = calls::build(alloc, config, SliceId(slice as u8), empty)?;
+        slices.push(state)?;
+    }
+    Ok(slices)
 }

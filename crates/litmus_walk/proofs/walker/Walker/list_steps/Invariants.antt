@@ -7,7 +7,7 @@ use Rattle.litmus_walk.proofs.walker.Walker.list_steps.Given as goal
 
 -- the steps of the threads so far, and of those that are left
 abbrev pub invariant-loop-number : goal.invariant-loop-number
-invariant-loop-number g l =
+invariant-loop-number l =
     l.initial.moves.items ++ steps_in l.threads l.self.places.items
     ≡ l.moves.items ++ map moves.Step (filter (may_step l.threads l.self.places.items)
     (range_with_len l.number (length l.threads - l.number)))

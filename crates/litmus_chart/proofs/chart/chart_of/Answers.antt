@@ -2,7 +2,7 @@ use Rattle.std.proofs.Common.{inr}
 use Rattle.std.proofs.lemmas.Result.{IfErr-weaker}
 use Rattle.litmus_chart.specs.Fault.{Draws}
 use Rattle.litmus_chart.proofs.FaultLemmas.{stops}
-use Rattle.litmus_chart.proofs.chart.chart_on.Goals as goal
+use Rattle.litmus_chart.proofs.chart.chart_of.Goals as goal
 use Rattle.litmus_script.proofs.PlayLemmas.{up_to_shown}
 use Rattle.litmus_script.specs.Script.{commands_of}
 

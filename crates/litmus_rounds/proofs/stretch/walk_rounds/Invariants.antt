@@ -1,3 +1,4 @@
+use Rattle.mshr_file.specs.Miss.{bound_of}
 use Rattle.litmus_rounds.specs.Run.{AreRounds}
 use Rattle.litmus_rounds.proofs.stretch.walk_rounds.Given as goal
 

@@ -28,7 +28,7 @@ returns-in_err-play-clause-fault c =
     rw (p.1, p.2) (
       _,
       inr
-          (stopped_on config c.args.config _ _ _ _ _ _ c.in_ok-machine.ensures.config c.new-nothing.ensures.items
+          (stopped_on config c.args.script.config _ _ _ _ _ _ c.in_ok-machine.ensures.config c.new-nothing.ensures.items
           c.in_ok-machine.ensures.new stopped),
     )
 
@@ -37,6 +37,6 @@ returns-clause-answers c =
     let config = c.in_ok-machine.machine.config in
     let all = all_answer (λ r. r.machine.slices.items) (λ r. r.machine.config) (λ r. map (λ t. t.items) r.texts.items) _
     (λ old new line command before after made. made) config _ _ _ _ _ refl c.in_ok-play.ensures.played in
-    answered_on config c.args.config _ _ _ _ _ _ all.0 c.in_ok-machine.ensures.config
+    answered_on config c.args.script.config _ _ _ _ _ _ all.0 c.in_ok-machine.ensures.config
     (ap (λ ts. map (λ t. t.items) ts) c.new.ensures.items)
     c.in_ok-machine.ensures.new all.1 all.2

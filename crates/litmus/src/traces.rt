@@ -10,7 +10,7 @@ ghost use Rattle.litmus_threads.specs.Trace.{heading_of};
 
 use address_map::{Checked, SliceId};
 use litmus_script::{Commands, Machine, Script, TextWriter, written};
-use litmus_text::{Command, TextFault};
+use litmus_text::{Look, TextFault};
 use litmus_threads::write_heading;
 use std::alloc::Global;
 use std::io::Write;
@@ -49,7 +49,7 @@ fn trace_script<W: Write>(alloc: Global, script: Script<'_>, out: &mut W) -> Res
     let mut machine = Machine::build(alloc, config, misses)?;
     let mut answers = Vec::new(alloc);
     match commands.play(&mut machine, &mut answers) {
-        Ok(()) => write_logs(&mut machine, out),
+        Ok(()) => write_logs(&machine, out),
         // writing to memory fails for want of it
         Err(TextFault::CannotWrite) => Err(TextFault::NoMemory),
         Err(fault) => Err(fault),
@@ -57,9 +57,9 @@ fn trace_script<W: Write>(alloc: Global, script: Script<'_>, out: &mut W) -> Res
 }
 
 /// Writes the log of each slice as a trace.
-fn write_logs<W: Write>(machine: &mut Machine, out: &mut W) -> Result<(), TextFault>
+fn write_logs<W: Write>(machine: &Machine, out: &mut W) -> Result<(), TextFault>
     ensures written { OnOk result (Appends (W.contents out.old) (W.contents out.new)
-        (text_of_slices machine.old.config machine.old.slices.items machine.old.config.slices)) }
+        (text_of_slices machine.now.config machine.now.slices.items machine.now.config.slices)) }
     ensures fault { IfErr result IsOfRun }
 {
     for slice in 0..machine.config.slices() {
@@ -68,16 +68,14 @@ fn write_logs<W: Write>(machine: &mut Machine, out: &mut W) -> Result<(), TextFa
     Ok(())
 }
 
-fn write_log<W: Write>(machine: &mut Machine, slice: SliceId, out: &mut W) -> Result<(), TextFault>
-    requires { slice.0 < machine.old.config.slices }
-    ensures config { machine.new.config ≡ machine.old.config }
-    ensures slices { OnOk result (machine.new.slices.items ≡ machine.old.slices.items) }
+fn write_log<W: Write>(machine: &Machine, slice: SliceId, out: &mut W) -> Result<(), TextFault>
+    requires { slice.0 < machine.now.config.slices }
     ensures written { OnOk result (Appends (W.contents out.old) (W.contents out.new)
-        (text_of_slice machine.old.config machine.old.slices.items slice.0)) }
+        (text_of_slice machine.now.config machine.now.slices.items slice.0)) }
     ensures fault { IfErr result IsOfRun }
 {
     name_slice(&machine.config, slice, out)?;
-    machine.run(Command::Log(slice), out)
+    machine.show(Look::Log(slice), out)
 }
 
 /// Writes the line before a slice's trace, where the machine has several slices.

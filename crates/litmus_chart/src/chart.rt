@@ -3,7 +3,8 @@ ghost use Rattle.std.specs.Str.Lines.{lines};
 ghost use Rattle.litmus_chart.specs.Fault.{IsChartFault, ChartStopsAt};
 ghost use Rattle.litmus_script.specs.Play.{IsOfRun};
 ghost use Rattle.litmus_script.specs.Script.{commands_of};
-ghost use Rattle.litmus_text.specs.Command.{HasCore, IsInRange};
+ghost use Rattle.litmus_text.specs.Command.{HasCore};
+ghost use Rattle.litmus_text.specs.Look.{HasSubject, subject_of};
 ghost use Rattle.litmus_text.specs.Statement.{statements_from};
 
 use super::arrow::{Fate, Participant};
@@ -15,7 +16,7 @@ use litmus_script::{
     Deliverer, Issued, Machine, Player, Script, TextWriter, pump_slices, write_delivered,
     write_evicted, write_handed, write_issued, write_pumped, written,
 };
-use litmus_text::{Command, Settings, Statement, TextFault};
+use litmus_text::{Command, Look, Settings, Statement, TextFault};
 use mshr_file::MissKind;
 use slice_core::{Class, Delivered, DeliveredNext, Pick};
 use std::alloc::Global;
@@ -111,9 +112,7 @@ impl Player for Chart {
             Command::Evict { core, line } => self.evict(statement, core, line, out),
             Command::Deliver(pick) => self.deliver(statement, pick, out),
             Command::Hand { core, slice } => self.hand(statement, core, slice, out),
-            Command::Word(word) => self.show(statement, command, word.line(), out),
-            Command::State(line) => self.show(statement, command, line, out),
-            Command::Log(_) | Command::Stats | Command::Waiting | Command::Show => Ok(()),
+            Command::Look(look) => self.show(statement, look, out),
             Command::Pump(calls) => self.pump(statement, calls, out),
         }
     }
@@ -159,19 +158,20 @@ impl Chart {
 
     /// What a command shows of a line is said over its directory.
     fn show<W: Write>(
-        &mut self,
+        &self,
         statement: &Statement<'_>,
-        command: Command,
-        line: LineAddr,
+        look: Look,
         out: &mut TextWriter<'_, W>,
     ) -> Result<(), TextFault>
-        requires { IsInRange self.old.machine.config command }
-        ensures config { self.new.machine.config ≡ self.old.machine.config }
+        requires { HasSubject self.now.machine.config (subject_of look) }
         ensures fault { IfErr result IsOfRun }
     {
+        let Some(line) = look.line() else {
+            return Ok(());
+        };
         let directory = Participant::Directory(self.machine.slice_of(line));
         written(begin_note(directory, statement, out))?;
-        self.machine.run(command, out.out)
+        self.machine.show(look, out.out)
     }
 
     fn issue<W: Write>(

@@ -13,6 +13,10 @@ use Rattle.litmus_script.specs.declared.answers.Issued.{Issued}
 use Rattle.litmus_script.specs.declared.answers.Pumped.{Pumped}
 use Rattle.litmus_text.specs.declared.command.Command.{Command}
 use Rattle.litmus_text.specs.declared.command.Command.TheVariants as commands
+use Rattle.litmus_text.specs.declared.look.Look.{Look}
+use Rattle.litmus_text.specs.declared.look.Look.TheVariants as looks
+use Rattle.litmus_text.specs.declared.look.MachineLook.{MachineLook}
+use Rattle.litmus_text.specs.declared.look.MachineLook.TheVariants as machine_looks
 use Rattle.slice_answer.specs.Text.{text_of_delivered, text_of_evicted}
 use Rattle.slice_answer.specs.declared.answer.Delivered.{Delivered}
 use Rattle.slice_answer.specs.declared.answer.Evicted.{Evicted}
@@ -38,8 +42,27 @@ pub record PrintsPump (tells : Telling) (slices calls : ℕ) (old new : List Par
   pub pumps : Pumps tells slices calls pumped old new before middle
   pub said : Adds middle after (text_of_pumped pumped)
 
+-- what is shown of all slices
+abbrev pub text_of_machine_look : Config → MachineLook → List PartsView → List ℕ
+text_of_machine_look config machine_looks.Stats slices = report_of (counts_in slices)
+text_of_machine_look config machine_looks.Waiting slices = text_of_waiting slices
+text_of_machine_look config machine_looks.Show slices = text_of_machine config slices
+
+-- what a machine has is written after what was written before
+abbrev pub Shows : Config → Look → List PartsView → Option (List ℕ) → Option (List ℕ) → Type 0
+Shows config (looks.Word word) slices before after =
+    (shown : Option ℕ) × IsShownWord slices (word.0 / 8 % config.slices) word shown
+    × Adds before after (text_of_word shown)
+Shows config (looks.State line) slices before after =
+    (shown : LineView) × IsShownLine slices (line.0 % config.slices) line shown
+    × Appends before after (text_of_line line shown)
+Shows config (looks.Log slice) slices before after =
+    Appends before after (text_of_trace config.cores (init_at slices slice.0) (log_at slices slice.0))
+Shows config (looks.Machine look) slices before after =
+    Appends before after (text_of_machine_look config look slices)
+
 -- The command's call of its slice, and what is written of the slice's answer after what was written before. What only
--- shows something leaves the machine as it was, and its text is that of what the machine has.
+-- shows something leaves the machine as it was.
 abbrev pub Prints : Config → Command → List PartsView → List PartsView → Option (List ℕ) → Option (List ℕ) → Type 0
 Prints config (commands.Issue core request) old new before after =
     (issued : Issued) × IsIssued ((line_of_word request.word).0 % config.slices) core request issued old new
@@ -55,17 +78,7 @@ Prints config (commands.Deliver pick) old new before after =
 Prints config (commands.Hand core slice) old new before after =
     (answer : Option Numbered) × IsAnswered slice.0 (slice_calls.Hand core) (call_answers.Hand answer) old new
     × Adds before after (text_of_handed answer)
-Prints config (commands.Word word) old new before after =
-    (new ≡ old) × (shown : Option ℕ) × IsShownWord old (word.0 / 8 % config.slices) word shown
-    × Adds before after (text_of_word shown)
-Prints config (commands.State line) old new before after =
-    (new ≡ old) × (shown : LineView) × IsShownLine old (line.0 % config.slices) line shown
-    × Appends before after (text_of_line line shown)
-Prints config (commands.Log slice) old new before after =
-    (new ≡ old) × Appends before after (text_of_trace config.cores (init_at old slice.0) (log_at old slice.0))
-Prints config commands.Stats old new before after = (new ≡ old) × Appends before after (report_of (counts_in old))
-Prints config commands.Waiting old new before after = (new ≡ old) × Appends before after (text_of_waiting old)
-Prints config commands.Show old new before after = (new ≡ old) × Appends before after (text_of_machine config old)
+Prints config (commands.Look look) old new before after = (new ≡ old) × Shows config look old before after
 Prints config (commands.Pump calls) old new before after = PrintsPump Silently config.slices calls old new before after
 
 -- The command's answer is printed. As a record it isn't unfolded where it is handed on.

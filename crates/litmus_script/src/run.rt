@@ -1,22 +1,18 @@
 //! What a machine does and prints for each command.
-ghost use Rattle.std.specs.Prelude.{◌≡◌, ◌/◌, ◌<◌, IfErr, OnOk};
+ghost use Rattle.std.specs.Prelude.{◌≡◌, ◌<◌, IfErr, OnOk};
 ghost use Rattle.litmus_script.specs.Play.{IsOfRun};
 ghost use Rattle.litmus_script.specs.Prints.{IsPrinted};
-ghost use Rattle.litmus_text.specs.Command.{IsInRange, HasCore, HasLine};
+ghost use Rattle.litmus_text.specs.Command.{IsInRange, HasCore};
 ghost use Rattle.litmus_text.specs.declared.command.Command.TheVariants as commands;
 
 use super::answers::{
-    TextWriter, write_delivered, write_evicted, write_handed, write_issued, write_pumped,
-    write_word, written,
+    TextWriter, write_delivered, write_evicted, write_handed, write_issued, write_pumped, written,
 };
 use super::machine::Machine;
 use super::pump::pump_slices;
-use super::trace::write_trace;
-use address_map::{CoreId, LineAddr, Request, SliceId, WordAddr};
+use address_map::{CoreId, LineAddr, Request, SliceId};
 use litmus_text::{Command, TextFault};
 use slice_core::Pick;
-use slice_text::write_line;
-use stats_report::{ReportError, write_report};
 use std::io::Write;
 
 impl Machine {
@@ -33,12 +29,7 @@ impl Machine {
             Command::Evict { core, line } => self.run_evict(core, line, out),
             Command::Deliver(pick) => self.run_deliver(pick, out),
             Command::Hand { core, slice } => self.run_hand(core, slice, out),
-            Command::Word(word) => self.run_word(word, out),
-            Command::State(line) => self.run_state(line, out),
-            Command::Log(slice) => self.run_log(slice, out),
-            Command::Stats => self.run_stats(out),
-            Command::Waiting => self.run_waiting(out),
-            Command::Show => self.run_show(out),
+            Command::Look(look) => self.show(look, out),
             Command::Pump(calls) => self.run_pump(calls, out),
         }
     }
@@ -104,57 +95,6 @@ impl Machine {
         let handed = self.hand(core, slice);
         let mut answers = TextWriter { out };
         written(write_handed(handed, &mut answers))
-    }
-
-    fn run_word<W: Write>(&self, word: WordAddr, out: &mut W) -> Result<(), TextFault>
-        requires { word.0 / 8 < self.now.config.lines }
-        ensures fault { IfErr result IsOfRun }
-        ensures printed { OnOk result (IsPrinted self.now.config (commands.Word word)
-            self.now.slices.items self.now.slices.items
-            (W.contents out.old) (W.contents out.new)) }
-    {
-        let shown = self.word_now(word);
-        let mut answers = TextWriter { out };
-        written(write_word(shown, &mut answers))
-    }
-
-    /// Shows what a slice has of a line.
-    pub fn run_state<W: Write>(&self, line: LineAddr, out: &mut W) -> Result<(), TextFault>
-        requires { HasLine self.now.config line }
-        ensures fault { IfErr result IsOfRun }
-        ensures printed { OnOk result (IsPrinted self.now.config (commands.State line)
-            self.now.slices.items self.now.slices.items
-            (W.contents out.old) (W.contents out.new)) }
-    {
-        let shown = self.line_now(line);
-        let mut answers = TextWriter { out };
-        written(write_line(line, &shown, &mut answers))
-    }
-
-    fn run_log<W: Write>(&self, slice: SliceId, out: &mut W) -> Result<(), TextFault>
-        ensures fault { IfErr result IsOfRun }
-        ensures printed { OnOk result (IsPrinted self.now.config (commands.Log slice)
-            self.now.slices.items self.now.slices.items
-            (W.contents out.old) (W.contents out.new)) }
-    {
-        let init = self.init_of(slice);
-        let log = self.log_of(slice);
-        let mut answers = TextWriter { out };
-        written(write_trace(&self.config, init, log, &mut answers))
-    }
-
-    fn run_stats<W: Write>(&self, out: &mut W) -> Result<(), TextFault>
-        ensures fault { IfErr result IsOfRun }
-        ensures printed { OnOk result (IsPrinted self.now.config commands.Stats
-            self.now.slices.items self.now.slices.items
-            (W.contents out.old) (W.contents out.new)) }
-    {
-        let stats = self.stats()?;
-        match write_report(self.alloc, stats.as_slice(), out) {
-            Ok(()) => Ok(()),
-            Err(ReportError::Memory) => Err(TextFault::NoMemory),
-            Err(ReportError::Cut(_)) => Err(TextFault::CannotWrite),
-        }
     }
 
     fn run_pump<W: Write>(&mut self, calls: u64, out: &mut W) -> Result<(), TextFault>

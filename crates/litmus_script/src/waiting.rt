@@ -9,6 +9,8 @@ ghost use Rattle.litmus_script.specs.Prints.{IsPrinted};
 ghost use Rattle.litmus_script.specs.Waiting.{flights_of, in_flight, lines_of, picks_of, receiver_state, text_at};
 ghost use Rattle.litmus_script.specs.Waiting.{text_of_waiting};
 ghost use Rattle.litmus_text.specs.declared.command.Command.TheVariants as commands;
+ghost use Rattle.litmus_text.specs.declared.look.Look.TheVariants as looks;
+ghost use Rattle.litmus_text.specs.declared.look.MachineLook.TheVariants as machine_looks;
 ghost use Rattle.slice_core_cache.specs.CoreCache.{state_of};
 ghost use Rattle.slice_core_plan.specs.View.{View, cache_at};
 ghost use Rattle.slice_queues_message.specs.Pick.{channel_of, line_of};
@@ -27,9 +29,9 @@ use step_text::MessageName;
 
 impl Machine {
     /// Shows the messages in flight.
-    pub fn run_waiting<W: io::Write>(&self, out: &mut W) -> Result<(), TextFault>
+    pub fn show_waiting<W: io::Write>(&self, out: &mut W) -> Result<(), TextFault>
         ensures fault { IfErr result IsOfRun }
-        ensures printed { OnOk result (IsPrinted self.now.config commands.Waiting
+        ensures printed { OnOk result (IsPrinted self.now.config (commands.Look (looks.Machine machine_looks.Waiting))
             self.now.slices.items self.now.slices.items
             (W.contents out.old) (W.contents out.new)) }
     {

@@ -18,11 +18,15 @@ use Rattle.litmus_text.specs.declared.command.Command.{Command}
 use Rattle.litmus_text.specs.declared.command.Command.TheVariants as commands
 use Rattle.litmus_text.specs.declared.fault.LineFault.{LineFault}
 use Rattle.litmus_text.specs.declared.fault.LineFault.TheVariants as line_faults
+use Rattle.litmus_text.specs.declared.look.Look.TheVariants as looks
+use Rattle.litmus_text.specs.declared.look.MachineLook.{MachineLook}
+use Rattle.litmus_text.specs.declared.look.MachineLook.TheVariants as machine_looks
 use Rattle.litmus_text.specs.declared.parse.Verb.{Verb}
 use Rattle.litmus_text.specs.declared.parse.Verb.TheVariants as verbs
 use Rattle.litmus_text.specs.Command.{HasPick, HasTag, IsFaultOfCommand, IsInRange, IsRead, ReadsAs, Says, parts_of}
 use Rattle.litmus_text.specs.Command.{parts_of_access, parts_of_op, parts_of_pick}
 use Rattle.litmus_text.specs.Form.{Part, Writes, HasForm, IsFaultOf, IsFormFaultOf, key, no_parts, one_part, two_parts}
+use Rattle.litmus_text.specs.Look.{name_of_machine_look}
 use Rattle.litmus_text.specs.Number.{IsNumber}
 use Rattle.litmus_text.specs.Verb.{name_of_verb}
 use Rattle.litmus_text.proofs.FaultLemmas.{fault_behind, lacks}
@@ -35,12 +39,10 @@ no_command name rest other (commands.Issue core request) w = other verbs.Issue w
 no_command name rest other (commands.Evict core line) w = other verbs.Evict w.0
 no_command name rest other (commands.Deliver pick) w = other verbs.Deliver w.0
 no_command name rest other (commands.Hand core slice) w = other verbs.Hand w.0
-no_command name rest other (commands.Word word) w = other verbs.Word w.0
-no_command name rest other (commands.State line) w = other verbs.State w.0
-no_command name rest other (commands.Log slice) w = other verbs.Log w.0
-no_command name rest other commands.Stats w = other verbs.Stats w.0
-no_command name rest other commands.Waiting w = other verbs.Waiting w.0
-no_command name rest other commands.Show w = other verbs.Show w.0
+no_command name rest other (commands.Look (looks.Word word)) w = other verbs.Word w.0
+no_command name rest other (commands.Look (looks.State line)) w = other verbs.State w.0
+no_command name rest other (commands.Look (looks.Log slice)) w = other verbs.Log w.0
+no_command name rest other (commands.Look (looks.Machine look)) w = other (verbs.Machine look) w.0
 no_command name rest other (commands.Pump calls) w = other verbs.Pump w.0
 
 -- .. so this is what is wrong with them
@@ -100,29 +102,25 @@ only_hand : (words : List (List ℕ)) (P : Command → Type 0)
     → (c : Command) → HasForm (codes "hand" ∷ words) (parts_of c) → P c
 only_hand words P h c form = grind (arith, common_steps)
 
-only_word : (words : List (List ℕ)) (P : Command → Type 0) → ((word : WordAddr) → P (commands.Word word))
+only_word : (words : List (List ℕ)) (P : Command → Type 0) → ((word : WordAddr) → P (commands.Look (looks.Word word)))
     → (c : Command) → HasForm (codes "word" ∷ words) (parts_of c) → P c
 only_word words P h c form = grind (arith, common_steps)
 
-only_state : (words : List (List ℕ)) (P : Command → Type 0) → ((line : LineAddr) → P (commands.State line))
+only_state : (words : List (List ℕ)) (P : Command → Type 0)
+    → ((line : LineAddr) → P (commands.Look (looks.State line)))
     → (c : Command) → HasForm (codes "state" ∷ words) (parts_of c) → P c
 only_state words P h c form = grind (arith, common_steps)
 
-only_log : (words : List (List ℕ)) (P : Command → Type 0) → ((slice : SliceId) → P (commands.Log slice))
+only_log : (words : List (List ℕ)) (P : Command → Type 0) → ((slice : SliceId) → P (commands.Look (looks.Log slice)))
     → (c : Command) → HasForm (codes "log" ∷ words) (parts_of c) → P c
 only_log words P h c form = grind (arith, common_steps)
 
-only_stats : (words : List (List ℕ)) (P : Command → Type 0) → P commands.Stats
-    → (c : Command) → HasForm (codes "stats" ∷ words) (parts_of c) → P c
-only_stats words P h c form = grind (arith, common_steps)
-
-only_waiting : (words : List (List ℕ)) (P : Command → Type 0) → P commands.Waiting
-    → (c : Command) → HasForm (codes "waiting" ∷ words) (parts_of c) → P c
-only_waiting words P h c form = grind (arith, common_steps)
-
-only_show : (words : List (List ℕ)) (P : Command → Type 0) → P commands.Show
-    → (c : Command) → HasForm (codes "show" ∷ words) (parts_of c) → P c
-only_show words P h c form = grind (arith, common_steps)
+only_machine : (look : MachineLook) (words : List (List ℕ)) (P : Command → Type 0)
+    → P (commands.Look (looks.Machine look))
+    → (c : Command) → HasForm (name_of_machine_look look ∷ words) (parts_of c) → P c
+only_machine machine_looks.Stats words P h c form = grind (arith, common_steps)
+only_machine machine_looks.Waiting words P h c form = grind (arith, common_steps)
+only_machine machine_looks.Show words P h c form = grind (arith, common_steps)
 
 only_pump : (words : List (List ℕ)) (P : Command → Type 0) → ((calls : ℕ) → P (commands.Pump calls))
     → (c : Command) → HasForm (codes "pump" ∷ words) (parts_of c) → P c
@@ -156,52 +154,36 @@ hand_fault config words Has =
     (λ P h. only_hand words P (λ core slice. h (core.0, slice.0))) (λ p. refl) (λ p. tt)
 
 pub word_fault : (config : Config) (words : List (List ℕ)) (Has : ℕ → Type 0)
-    → ((p : ℕ) → IsInRange config (commands.Word (record { 0 = p })) → Has p) → (fault : LineFault)
+    → ((p : ℕ) → IsInRange config (commands.Look (looks.Word (record { 0 = p }))) → Has p) → (fault : LineFault)
     → IsFaultOf (λ p. HasForm words (one_part p)) (λ p. Writes words (one_part p)) Has fault
     → IsFaultOfCommand config (codes "word" ∷ words) fault
 word_fault config words Has =
-    behind_verb config (codes "word") words one_part Has (λ p. commands.Word (record { 0 = p }))
+    behind_verb config (codes "word") words one_part Has (λ p. commands.Look (looks.Word (record { 0 = p })))
     (λ P h. only_word words P (λ word. h word.0)) (λ p. refl) (λ p. tt)
 
 pub state_fault : (config : Config) (words : List (List ℕ)) (Has : ℕ → Type 0)
-    → ((p : ℕ) → IsInRange config (commands.State (record { 0 = p })) → Has p) → (fault : LineFault)
+    → ((p : ℕ) → IsInRange config (commands.Look (looks.State (record { 0 = p }))) → Has p) → (fault : LineFault)
     → IsFaultOf (λ p. HasForm words (one_part p)) (λ p. Writes words (one_part p)) Has fault
     → IsFaultOfCommand config (codes "state" ∷ words) fault
 state_fault config words Has =
-    behind_verb config (codes "state") words one_part Has (λ p. commands.State (record { 0 = p }))
+    behind_verb config (codes "state") words one_part Has (λ p. commands.Look (looks.State (record { 0 = p })))
     (λ P h. only_state words P (λ line. h line.0)) (λ p. refl) (λ p. tt)
 
 pub log_fault : (config : Config) (words : List (List ℕ)) (Has : ℕ → Type 0)
-    → ((p : ℕ) → IsInRange config (commands.Log (record { 0 = p })) → Has p) → (fault : LineFault)
+    → ((p : ℕ) → IsInRange config (commands.Look (looks.Log (record { 0 = p }))) → Has p) → (fault : LineFault)
     → IsFaultOf (λ p. HasForm words (one_part p)) (λ p. Writes words (one_part p)) Has fault
     → IsFaultOfCommand config (codes "log" ∷ words) fault
 log_fault config words Has =
-    behind_verb config (codes "log") words one_part Has (λ p. commands.Log (record { 0 = p }))
+    behind_verb config (codes "log") words one_part Has (λ p. commands.Look (looks.Log (record { 0 = p })))
     (λ P h. only_log words P (λ slice. h slice.0)) (λ p. refl) (λ p. tt)
 
-pub stats_fault : (config : Config) (words : List (List ℕ)) (Has : Unit {0} → Type 0)
-    → ((p : Unit {0}) → IsInRange config (commands.Stats) → Has p) → (fault : LineFault)
+pub machine_fault : (look : MachineLook) (config : Config) (words : List (List ℕ)) (Has : Unit {0} → Type 0)
+    → ((p : Unit {0}) → IsInRange config (commands.Look (looks.Machine look)) → Has p) → (fault : LineFault)
     → IsFaultOf (λ p. HasForm words (no_parts p)) (λ p. Writes words (no_parts p)) Has fault
-    → IsFaultOfCommand config (codes "stats" ∷ words) fault
-stats_fault config words Has =
-    behind_verb config (codes "stats") words no_parts Has (λ p. commands.Stats)
-    (λ P h. only_stats words P (h tt)) (λ p. refl) (λ p. tt)
-
-pub waiting_fault : (config : Config) (words : List (List ℕ)) (Has : Unit {0} → Type 0)
-    → ((p : Unit {0}) → IsInRange config (commands.Waiting) → Has p) → (fault : LineFault)
-    → IsFaultOf (λ p. HasForm words (no_parts p)) (λ p. Writes words (no_parts p)) Has fault
-    → IsFaultOfCommand config (codes "waiting" ∷ words) fault
-waiting_fault config words Has =
-    behind_verb config (codes "waiting") words no_parts Has (λ p. commands.Waiting)
-    (λ P h. only_waiting words P (h tt)) (λ p. refl) (λ p. tt)
-
-pub show_fault : (config : Config) (words : List (List ℕ)) (Has : Unit {0} → Type 0)
-    → ((p : Unit {0}) → IsInRange config (commands.Show) → Has p) → (fault : LineFault)
-    → IsFaultOf (λ p. HasForm words (no_parts p)) (λ p. Writes words (no_parts p)) Has fault
-    → IsFaultOfCommand config (codes "show" ∷ words) fault
-show_fault config words Has =
-    behind_verb config (codes "show") words no_parts Has (λ p. commands.Show)
-    (λ P h. only_show words P (h tt)) (λ p. refl) (λ p. tt)
+    → IsFaultOfCommand config (name_of_machine_look look ∷ words) fault
+machine_fault look config words Has =
+    behind_verb config (name_of_machine_look look) words no_parts Has (λ p. commands.Look (looks.Machine look))
+    (λ P h. only_machine look words P (h tt)) (λ p. refl) (λ p. tt)
 
 pub pump_fault : (config : Config) (words : List (List ℕ)) (Has : ℕ → Type 0)
     → ((p : ℕ) → IsInRange config (commands.Pump p) → Has p) → (fault : LineFault)

@@ -1,5 +1,5 @@
 -- How the commands of a script are written.
-use Rattle.std.specs.Prelude.{ℕ, ◌<◌, ◌/◌, List, [], ◌∷◌, Result, IfOk, IfErr, codes}
+use Rattle.std.specs.Prelude.{ℕ, ◌<◌, List, [], ◌∷◌, Result, IfOk, IfErr, codes}
 use Rattle.address_map.specs.declared.config.Config.{Config}
 use Rattle.address_map.specs.declared.address.CoreId.{CoreId}
 use Rattle.address_map.specs.declared.address.LineAddr.{LineAddr}
@@ -11,6 +11,7 @@ use Rattle.litmus_text.specs.declared.command.Command.{Command}
 use Rattle.litmus_text.specs.declared.command.Command.TheVariants as commands
 use Rattle.litmus_text.specs.declared.fault.LineFault.{LineFault}
 use Rattle.litmus_text.specs.Form.{Part, key, num, Writes, HasForm, IsFaultOf}
+use Rattle.litmus_text.specs.Look.{HasSubject, name_of_look, parts_of_subject, subject_of}
 
 -- an access, by its name, its word and what else it takes
 unfoldable pub parts_of_op : Op → ℕ → List Part
@@ -38,12 +39,7 @@ parts_of (commands.Issue core request) =
 parts_of (commands.Evict core line) = key (codes "evict") ∷ num core.0 ∷ num line.0 ∷ []
 parts_of (commands.Deliver pick) = key (codes "deliver") ∷ parts_of_pick pick
 parts_of (commands.Hand core slice) = key (codes "hand") ∷ num core.0 ∷ num slice.0 ∷ []
-parts_of (commands.Word word) = key (codes "word") ∷ num word.0 ∷ []
-parts_of (commands.State line) = key (codes "state") ∷ num line.0 ∷ []
-parts_of (commands.Log slice) = key (codes "log") ∷ num slice.0 ∷ []
-parts_of commands.Stats = key (codes "stats") ∷ []
-parts_of commands.Waiting = key (codes "waiting") ∷ []
-parts_of commands.Show = key (codes "show") ∷ []
+parts_of (commands.Look look) = key (name_of_look look) ∷ parts_of_subject (subject_of look)
 parts_of (commands.Pump calls) = key (codes "pump") ∷ num calls ∷ []
 
 -- the machine has this core, and this line
@@ -83,12 +79,7 @@ IsInRange config (commands.Issue core request) = HasCore config core
 IsInRange config (commands.Evict core line) = HasCore config core × HasLine config line
 IsInRange config (commands.Deliver pick) = HasPick config pick
 IsInRange config (commands.Hand core slice) = HasCore config core × (slice.0 < config.slices)
-IsInRange config (commands.Word word) = word.0 / 8 < config.lines
-IsInRange config (commands.State line) = HasLine config line
-IsInRange config (commands.Log slice) = slice.0 < config.slices
-IsInRange config commands.Stats = Unit {0}
-IsInRange config commands.Waiting = Unit {0}
-IsInRange config commands.Show = Unit {0}
+IsInRange config (commands.Look look) = HasSubject config (subject_of look)
 IsInRange config (commands.Pump calls) = Unit {0}
 
 -- a tag is a number below 256

@@ -3,6 +3,7 @@ pub mod Blanks
 pub mod Number
 pub mod Fault
 pub mod Form
+pub mod Look
 pub mod Command
 pub mod ConfigLine
 pub mod Statement

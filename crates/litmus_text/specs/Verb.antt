@@ -1,5 +1,6 @@
 -- The words with which the commands of a script begin.
 use Rattle.std.specs.Prelude.{ℕ, List, codes}
+use Rattle.litmus_text.specs.Look.{name_of_machine_look}
 use Rattle.litmus_text.specs.declared.parse.Verb.{Verb}
 use Rattle.litmus_text.specs.declared.parse.Verb.TheVariants as verbs
 
@@ -11,7 +12,5 @@ name_of_verb verbs.Hand = codes "hand"
 name_of_verb verbs.Word = codes "word"
 name_of_verb verbs.State = codes "state"
 name_of_verb verbs.Log = codes "log"
-name_of_verb verbs.Stats = codes "stats"
-name_of_verb verbs.Waiting = codes "waiting"
-name_of_verb verbs.Show = codes "show"
+name_of_verb (verbs.Machine look) = name_of_machine_look look
 name_of_verb verbs.Pump = codes "pump"

@@ -1,4 +1,5 @@
-use address_map::{CoreId, LineAddr, Request, SliceId, WordAddr};
+use super::look::Look;
+use address_map::{CoreId, LineAddr, Request, SliceId};
 use slice_queues_message::Pick;
 
 /// What one line of a script asks of the machine.
@@ -12,18 +13,8 @@ pub enum Command {
     Deliver(Pick),
     /// The core takes its next performed reply.
     Hand { core: CoreId, slice: SliceId },
-    /// Shows a word of a quiet slice.
-    Word(WordAddr),
-    /// Shows what the directory and each core have of a line.
-    State(LineAddr),
-    /// Shows a slice's log as a trace.
-    Log(SliceId),
-    /// Shows what the slices have counted.
-    Stats,
-    /// Shows the messages in flight.
-    Waiting,
-    /// Shows all that isn't at rest.
-    Show,
+    /// Something is shown.
+    Look(Look),
     /// Delivers messages, by so many calls at most.
     Pump(u64),
 }

@@ -21,6 +21,7 @@ pub use config_line::ConfigLine;
 pub use fault::{LineFault, TextFault};
 pub use field::Count;
 pub use line::Lines;
+pub use look::{Look, MachineLook, Subject};
 pub use number::{
     core_in, line_in, no_numbers, one_number, parse_number, three_numbers, two_numbers, word_in,
 };
@@ -38,6 +39,7 @@ mod config_line;
 mod fault;
 mod field;
 mod line;
+mod look;
 mod number;
 mod parse;
 mod policy;

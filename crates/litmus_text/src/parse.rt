@@ -5,12 +5,14 @@ ghost use Rattle.address_map.specs.declared.request.Op.{Op};
 ghost use Rattle.litmus_text.specs.Access.{name_of_access};
 ghost use Rattle.litmus_text.specs.Command.{IsFaultOfCommand, IsRead, ReadsAs, parts_of_access, parts_of_op};
 ghost use Rattle.litmus_text.specs.Form.{Writes, IsFormFaultOf};
+ghost use Rattle.litmus_text.specs.Look.{name_of_machine_look};
 ghost use Rattle.litmus_text.specs.Verb.{name_of_verb};
 ghost use Rattle.litmus_text.specs.declared.parse.Verb.{Verb};
 
 use super::channel::parse_pick;
 use super::command::Command;
 use super::fault::LineFault;
+use super::look::{Look, MachineLook};
 use super::number::{
     core_in, line_in, no_numbers, number, one_number, slice_in, tag_number, three_numbers,
     two_numbers, word_in,
@@ -29,9 +31,7 @@ pub(super) enum Verb {
     Word,
     State,
     Log,
-    Stats,
-    Waiting,
-    Show,
+    Machine(MachineLook),
     Pump,
 }
 
@@ -44,9 +44,9 @@ static VERBS: [(&[u8], Verb); 11] = [
     (b"word", Verb::Word),
     (b"state", Verb::State),
     (b"log", Verb::Log),
-    (b"stats", Verb::Stats),
-    (b"waiting", Verb::Waiting),
-    (b"show", Verb::Show),
+    (b"stats", Verb::Machine(MachineLook::Stats)),
+    (b"waiting", Verb::Machine(MachineLook::Waiting)),
+    (b"show", Verb::Machine(MachineLook::Show)),
     (b"pump", Verb::Pump),
 ];
 
@@ -69,7 +69,7 @@ impl Verb {
             Verb::Word => &[Slot::Word],
             Verb::State => &[Slot::Line],
             Verb::Log => &[Slot::Slice],
-            Verb::Stats | Verb::Waiting | Verb::Show => &[],
+            Verb::Machine(_) => &[],
             Verb::Pump => &[Slot::Number],
         }
     }
@@ -96,9 +96,7 @@ pub fn parse_command(config: &Checked, words: &[&[u8]]) -> Result<Command, LineF
         Verb::Word => parse_word(config, rest),
         Verb::State => parse_state(config, rest),
         Verb::Log => parse_log(config, rest),
-        Verb::Stats => parse_stats(rest),
-        Verb::Waiting => parse_waiting(rest),
-        Verb::Show => parse_show(rest),
+        Verb::Machine(look) => parse_machine(look, rest),
         Verb::Pump => parse_pump(rest),
     }
 }
@@ -149,42 +147,29 @@ fn parse_word(config: &Checked, words: &[&[u8]]) -> Result<Command, LineFault>
     ensures { ReadsAs config.now (codes "word" ∷ map (λ w. w.now) words.now) result }
 {
     let word = one_number(words)?;
-    Ok(Command::Word(word_in(config, word)?))
+    Ok(Command::Look(Look::Word(word_in(config, word)?)))
 }
 
 fn parse_state(config: &Checked, words: &[&[u8]]) -> Result<Command, LineFault>
     ensures { ReadsAs config.now (codes "state" ∷ map (λ w. w.now) words.now) result }
 {
     let line = one_number(words)?;
-    Ok(Command::State(line_in(config, line)?))
+    Ok(Command::Look(Look::State(line_in(config, line)?)))
 }
 
 fn parse_log(config: &Checked, words: &[&[u8]]) -> Result<Command, LineFault>
     ensures { ReadsAs config.now (codes "log" ∷ map (λ w. w.now) words.now) result }
 {
     let slice = one_number(words)?;
-    Ok(Command::Log(slice_in(config, slice)?))
+    Ok(Command::Look(Look::Log(slice_in(config, slice)?)))
 }
 
-fn parse_stats(words: &[&[u8]]) -> Result<Command, LineFault>
-    ensures { (config : Config) → ReadsAs config (codes "stats" ∷ map (λ w. w.now) words.now) result }
+fn parse_machine(look: MachineLook, words: &[&[u8]]) -> Result<Command, LineFault>
+    ensures { (config : Config)
+        → ReadsAs config (name_of_machine_look look ∷ map (λ w. w.now) words.now) result }
 {
     no_numbers(words)?;
-    Ok(Command::Stats)
-}
-
-fn parse_waiting(words: &[&[u8]]) -> Result<Command, LineFault>
-    ensures { (config : Config) → ReadsAs config (codes "waiting" ∷ map (λ w. w.now) words.now) result }
-{
-    no_numbers(words)?;
-    Ok(Command::Waiting)
-}
-
-fn parse_show(words: &[&[u8]]) -> Result<Command, LineFault>
-    ensures { (config : Config) → ReadsAs config (codes "show" ∷ map (λ w. w.now) words.now) result }
-{
-    no_numbers(words)?;
-    Ok(Command::Show)
+    Ok(Command::Look(Look::Machine(look)))
 }
 
 fn parse_pump(words: &[&[u8]]) -> Result<Command, LineFault>

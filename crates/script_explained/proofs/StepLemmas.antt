@@ -64,11 +64,6 @@ one_step writes writes_next config old line (commands.Evict core l) before after
 one_step writes writes_next config old line (commands.Deliver pick) before after new other one = record { steps = one }
 one_step writes writes_next config old line (commands.Hand core slice) before after new other one =
     record { steps = one }
-one_step writes writes_next config old line (commands.Word word) before after new other one = record { steps = one }
-one_step writes writes_next config old line (commands.State l) before after new other one = record { steps = one }
-one_step writes writes_next config old line (commands.Log slice) before after new other one = record { steps = one }
-one_step writes writes_next config old line commands.Stats before after new other one = record { steps = one }
-one_step writes writes_next config old line commands.Waiting before after new other one = record { steps = one }
-one_step writes writes_next config old line commands.Show before after new other one = record { steps = one }
+one_step writes writes_next config old line (commands.Look look) before after new other one = record { steps = one }
 one_step writes writes_next config old line (commands.Pump calls) before after new other one =
     absurd (other calls refl)

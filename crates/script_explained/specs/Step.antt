@@ -11,6 +11,7 @@ use Rattle.litmus_script.specs.Script.{Playing}
 use Rattle.litmus_script.specs.declared.answers.Pumped.{Pumped}
 use Rattle.litmus_text.specs.declared.command.Command.{Command}
 use Rattle.litmus_text.specs.declared.command.Command.TheVariants as commands
+use Rattle.litmus_text.specs.declared.look.Look.TheVariants as looks
 use Rattle.script_explained.specs.Delivery.{delivery_of}
 use Rattle.script_explained.specs.Issue.{eviction_of, issue_at}
 use Rattle.script_explained.specs.Unrest.{first_unrest}
@@ -39,7 +40,7 @@ command_of (steps.Issue access) = commands.Issue access.core access.decided.requ
 command_of (steps.Evict eviction) = commands.Evict eviction.core eviction.line
 command_of (steps.Deliver delivery) = commands.Deliver delivery.pick
 command_of (steps.Hand hand) = commands.Hand hand.core hand.slice
-command_of (steps.Word word) = commands.Word word.word
+command_of (steps.Word word) = commands.Look (looks.Word word.word)
 command_of (steps.Pump calls pumped) = commands.Pump calls
 command_of (steps.Show command text) = command
 
@@ -63,13 +64,10 @@ pub record IsWord (step : WordStep) (v : View) : Type 0 where
   pub shows : ShowsWord v step.word step.shown
   pub unrest : step.unrest ≡ first_unrest v
 
--- the command only shows something of the machine, at once
+-- the command only shows something of the machine, as it is printed; a word has a step of its own
 abbrev pub is_look : Command → Bool
-is_look (commands.State line) = true
-is_look (commands.Log slice) = true
-is_look commands.Stats = true
-is_look commands.Waiting = true
-is_look commands.Show = true
+is_look (commands.Look (looks.Word word)) = false
+is_look (commands.Look look) = true
 is_look command = false
 
 -- it printed this; a pump, whose deliveries are steps of their own, prints and does nothing as one step; no other command

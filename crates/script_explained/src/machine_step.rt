@@ -4,13 +4,14 @@ ghost use Rattle.litmus_script.specs.Machine.{OneSlice};
 ghost use Rattle.litmus_script.specs.Play.{IsOfRun};
 ghost use Rattle.litmus_text.specs.Command.{IsInRange, HasCore};
 ghost use Rattle.litmus_text.specs.declared.command.Command.TheVariants as commands;
+ghost use Rattle.litmus_text.specs.declared.look.Look.TheVariants as looks;
 ghost use Rattle.script_explained.specs.Step.{IsAccess, IsDelivery, IsEviction, IsShown, MakesNext, MakesStep, is_look};
 
 use super::step::{AccessStep, DeliveryStep, EvictionStep, HandStep, Step};
 use super::{delivery, issue, unrest};
 use address_map::{CoreId, LineAddr, Request, SliceId, WordAddr};
 use litmus_script::Machine;
-use litmus_text::{Command, TextFault};
+use litmus_text::{Command, Look, TextFault};
 use slice_core::{DeliveredNext, Pick};
 use std::alloc::Global;
 
@@ -27,13 +28,14 @@ pub fn make_step(alloc: Global, machine: &mut Machine, command: Command) -> Resu
         Command::Evict { core, line } => Ok(evict_step(machine, core, line)),
         Command::Deliver(pick) => Ok(deliver_step(machine, pick)),
         Command::Hand { core, slice } => Ok(hand_step(machine, core, slice)),
-        Command::Word(word) => Ok(word_step(machine, word)),
+        Command::Look(Look::Word(word)) => Ok(word_step(machine, word)),
         Command::Pump(_) => Ok(Step::Show {
             command,
             text: Vec::new(alloc),
         }),
-        Command::State(_) | Command::Log(_) | Command::Stats | Command::Waiting | Command::Show =>
-            show(alloc, machine, command),
+        Command::Look(Look::State(_) | Look::Log(_) | Look::Machine(_)) => {
+            show(alloc, machine, command)
+        }
     }
 }
 
@@ -169,7 +171,7 @@ fn hand_step(machine: &mut Machine, core: CoreId, slice: SliceId) -> Step
 
 fn word_step(machine: &Machine, word: WordAddr) -> Step
     requires { word.0 / 8 < machine.now.config.lines }
-    ensures step { MakesStep machine.now.config (commands.Word word)
+    ensures step { MakesStep machine.now.config (commands.Look (looks.Word word))
         machine.now.slices.items machine.now.slices.items result }
 {
     let shown = machine.word_now(word);

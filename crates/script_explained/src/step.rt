@@ -4,7 +4,7 @@ ghost use Rattle.std.specs.Prelude.{◌≡◌};
 use super::unrest::Unrest;
 use address_map::{CoreId, LineAddr, SliceId, WordAddr};
 use litmus_script::{Issued, Pumped};
-use litmus_text::Command;
+use litmus_text::{Command, Look};
 use slice_core::{Delivered, Numbered, Pick};
 use step_text::{Eviction, ExplainedDelivery, Issue};
 
@@ -43,7 +43,7 @@ impl Step {
                 core: hand.core,
                 slice: hand.slice,
             },
-            Step::Word(word) => Command::Word(word.word),
+            Step::Word(word) => Command::Look(Look::Word(word.word)),
             Step::Pump { calls, .. } => Command::Pump(*calls),
             Step::Show { command, .. } => *command,
         }

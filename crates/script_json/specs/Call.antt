@@ -5,6 +5,10 @@ use Rattle.address_map.specs.declared.request.Op.TheVariants as ops
 use Rattle.json_text.specs.Number.{number_of}
 use Rattle.litmus_text.specs.declared.command.Command.{Command}
 use Rattle.litmus_text.specs.declared.command.Command.TheVariants as commands
+use Rattle.litmus_text.specs.Look.{name_of_look, subject_of}
+use Rattle.litmus_text.specs.declared.look.Look.{Look}
+use Rattle.litmus_text.specs.declared.look.Subject.{Subject}
+use Rattle.litmus_text.specs.declared.look.Subject.TheVariants as subjects
 use Rattle.slice_queues_message.specs.Pick.{channel_of, line_of}
 use Rattle.slice_queues_message.specs.declared.channel.Channel.{Channel}
 use Rattle.slice_queues_message.specs.declared.channel.Channel.TheVariants as channels
@@ -26,6 +30,16 @@ text_of_ends (channels.Ack to from) =
     codes "\"class\":\"ack\",\"to\":" ++ decimal to.0 ++ codes ",\"from\":" ++ decimal from.0
 text_of_ends channels.Home = codes "\"class\":\"home\""
 
+-- what something is shown of, after its name
+abbrev pub text_of_subject : Subject → List ℕ
+text_of_subject (subjects.Word word) = codes "\",\"word\":" ++ decimal word.0 ++ codes "}"
+text_of_subject (subjects.Line line) = codes "\",\"line\":" ++ decimal line.0 ++ codes "}"
+text_of_subject (subjects.Slice slice) = codes "\",\"slice\":" ++ decimal slice.0 ++ codes "}"
+text_of_subject subjects.Machine = codes "\"}"
+
+abbrev pub text_of_look : Look → List ℕ
+text_of_look look = codes "{\"name\":\"" ++ name_of_look look ++ text_of_subject (subject_of look)
+
 abbrev pub text_of_call : Command → List ℕ
 text_of_call (commands.Issue core request) =
     codes "{\"name\":\"issue\",\"core\":" ++ decimal core.0 ++ codes ",\"tag\":" ++ decimal request.tag
@@ -37,10 +51,5 @@ text_of_call (commands.Deliver pick) =
     ++ codes "}"
 text_of_call (commands.Hand core slice) =
     codes "{\"name\":\"hand\",\"core\":" ++ (decimal core.0 ++ (codes ",\"slice\":" ++ (decimal slice.0 ++ codes "}")))
-text_of_call (commands.Word word) = codes "{\"name\":\"word\",\"word\":" ++ decimal word.0 ++ codes "}"
-text_of_call (commands.State line) = codes "{\"name\":\"state\",\"line\":" ++ decimal line.0 ++ codes "}"
-text_of_call (commands.Log slice) = codes "{\"name\":\"log\",\"slice\":" ++ decimal slice.0 ++ codes "}"
-text_of_call commands.Stats = codes "{\"name\":\"stats\"}"
-text_of_call commands.Waiting = codes "{\"name\":\"waiting\"}"
-text_of_call commands.Show = codes "{\"name\":\"show\"}"
+text_of_call (commands.Look look) = text_of_look look
 text_of_call (commands.Pump calls) = codes "{\"name\":\"pump\",\"calls\":" ++ number_of calls ++ codes "}"

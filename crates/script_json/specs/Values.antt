@@ -9,6 +9,8 @@ use Rattle.litmus_script.specs.Machine.{HasAt}
 use Rattle.litmus_script.specs.Script.{Playing}
 use Rattle.litmus_text.specs.declared.command.Command.{Command}
 use Rattle.litmus_text.specs.declared.command.Command.TheVariants as commands
+use Rattle.litmus_text.specs.declared.look.Look.TheVariants as looks
+use Rattle.litmus_text.specs.declared.look.MachineLook.TheVariants as machine_looks
 use Rattle.script_explained.specs.Delivery.{told_of_delivery}
 use Rattle.script_explained.specs.Hand.{told_of_hand}
 use Rattle.script_explained.specs.Issue.{named_by_answer, named_of}
@@ -63,8 +65,8 @@ items_moving config slices =
 
 -- of what only shows something: these, or the words that are printed
 abbrev pub items_shown : Config → List PartsView → Command → List ℕ → List ℕ
-items_shown config slices commands.Waiting text = items_waiting config slices
-items_shown config slices commands.Show text = items_moving config slices
+items_shown config slices (commands.Look (looks.Machine machine_looks.Waiting)) text = items_waiting config slices
+items_shown config slices (commands.Look (looks.Machine machine_looks.Show)) text = items_moving config slices
 items_shown config slices command text = items_of_lines (lines text)
 
 abbrev pub Values : Writing

@@ -7,7 +7,7 @@ ghost use Rattle.script_json.specs.Call.{text_of_call};
 use address_map::{CoreId, LineAddr, Op, SliceId, WordAddr};
 use json_text::Number;
 use litmus_script::TextWriter;
-use litmus_text::{Command, TextFault};
+use litmus_text::{Command, Look, Subject, TextFault};
 use slice_queues_message::Channel;
 use std::fmt;
 use std::io::Write;
@@ -67,18 +67,37 @@ impl fmt::Display for Call {
                 let slice = slice.0;
                 write!(f, "{{\"name\":\"hand\",\"core\":{core},\"slice\":{slice}}}")
             }
-            Command::Word(WordAddr(word)) => write!(f, "{{\"name\":\"word\",\"word\":{word}}}"),
-            Command::State(LineAddr(line)) => {
-                write!(f, "{{\"name\":\"state\",\"line\":{line}}}")
+            Command::Look(look) => {
+                let shown = Shown(look);
+                write!(f, "{shown}")
             }
-            Command::Log(SliceId(slice)) => write!(f, "{{\"name\":\"log\",\"slice\":{slice}}}"),
-            Command::Stats => f.write_str("{\"name\":\"stats\"}"),
-            Command::Waiting => f.write_str("{\"name\":\"waiting\"}"),
-            Command::Show => f.write_str("{\"name\":\"show\"}"),
             Command::Pump(calls) => {
                 let calls = Number(calls);
                 write!(f, "{{\"name\":\"pump\",\"calls\":{calls}}}")
             }
+        }
+    }
+}
+
+/// What is to be shown, by its name and what it is about.
+#[derive(Clone, Copy)]
+struct Shown(Look);
+
+impl fmt::Display for Shown {
+    ghost use Rattle.std.specs.Prelude.{Some};
+    ghost use Rattle.script_json.specs.Call.{text_of_look};
+
+    ghost output = { λ shown. Some (text_of_look shown.0) };
+
+    fn fmt<W: fmt::Write>(&self, f: &mut fmt::Formatter<W>) -> fmt::Result {
+        let name = self.0.name();
+        match self.0.subject() {
+            Subject::Word(WordAddr(word)) => write!(f, "{{\"name\":\"{name}\",\"word\":{word}}}"),
+            Subject::Line(LineAddr(line)) => write!(f, "{{\"name\":\"{name}\",\"line\":{line}}}"),
+            Subject::Slice(SliceId(slice)) => {
+                write!(f, "{{\"name\":\"{name}\",\"slice\":{slice}}}")
+            }
+            Subject::Machine => write!(f, "{{\"name\":\"{name}\"}}"),
         }
     }
 }

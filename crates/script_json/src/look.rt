@@ -9,7 +9,7 @@ use super::held::{Choice, write_lines};
 use super::item::write_shown;
 use super::slices::write_slices;
 use litmus_script::{Machine, TextWriter, written};
-use litmus_text::{Command, TextFault};
+use litmus_text::{Command, Look, MachineLook, TextFault};
 use std::fmt;
 use std::io::Write;
 
@@ -25,8 +25,8 @@ pub(crate) fn write_look<W: Write>(
     ensures fault { IfErr result IsOfRun }
 {
     match command {
-        Command::Waiting => write_waiting(machine, out),
-        Command::Show => write_moving(machine, out),
+        Command::Look(Look::Machine(MachineLook::Waiting)) => write_waiting(machine, out),
+        Command::Look(Look::Machine(MachineLook::Show)) => write_moving(machine, out),
         _ => write_shown(text, out),
     }
 }

@@ -16,6 +16,7 @@ use Rattle.litmus_script.specs.Machine.{OneSlice}
 use Rattle.litmus_text.specs.Command.{IsInRange}
 use Rattle.litmus_text.specs.declared.command.Command.{Command}
 use Rattle.litmus_text.specs.declared.command.Command.TheVariants as commands
+use Rattle.litmus_text.specs.declared.look.Look.TheVariants as looks
 use Rattle.script_explained.specs.Step.{IsShown, IsStep, MakesNext, MakesStep, command_of, is_look}
 use Rattle.script_explained.specs.declared.step.DeliveryStep.{DeliveryStep}
 use Rattle.script_explained.specs.declared.step.Step.{Step}
@@ -136,16 +137,14 @@ same_rest (Some scope) old new same = inl same
 -- what only shows something leaves the machine as it was
 look_same : (config : Config) (command : Command) (old new : List PartsView) (text : List ℕ)
     → IsShown (is_look command) config command old new text → new ≡ old
-look_same config (commands.State line) old new text shown = shown.printed.0
-look_same config (commands.Log slice) old new text shown = shown.printed.0
-look_same config commands.Stats old new text shown = shown.printed.0
-look_same config commands.Waiting old new text shown = shown.printed.0
-look_same config commands.Show old new text shown = shown.printed.0
+look_same config (commands.Look (looks.State line)) old new text shown = shown.printed.0
+look_same config (commands.Look (looks.Log slice)) old new text shown = shown.printed.0
+look_same config (commands.Look (looks.Machine look)) old new text shown = shown.printed.0
 look_same config (commands.Issue core request) old new text shown = absurd shown
 look_same config (commands.Evict core line) old new text shown = absurd shown
 look_same config (commands.Deliver pick) old new text shown = absurd shown
 look_same config (commands.Hand core slice) old new text shown = absurd shown
-look_same config (commands.Word word) old new text shown = absurd shown
+look_same config (commands.Look (looks.Word word)) old new text shown = absurd shown
 look_same config (commands.Pump calls) old new text shown = shown.0
 
 step_rest : (config : Config) (step : Step) (old new : List PartsView) → AreSlices config old

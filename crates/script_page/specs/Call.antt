@@ -8,6 +8,10 @@ use Rattle.directory_table.specs.declared.row.DirSends.{DirSends}
 use Rattle.directory_table.specs.declared.row.DirSends.TheVariants as dir_sends
 use Rattle.litmus_text.specs.declared.command.Command.{Command}
 use Rattle.litmus_text.specs.declared.command.Command.TheVariants as commands
+use Rattle.litmus_text.specs.Look.{name_of_look, subject_of}
+use Rattle.litmus_text.specs.declared.look.Look.{Look}
+use Rattle.litmus_text.specs.declared.look.Subject.{Subject}
+use Rattle.litmus_text.specs.declared.look.Subject.TheVariants as subjects
 use Rattle.slice_json.specs.Access.{text_of_op}
 use Rattle.slice_json.specs.Json.{list_of_cores}
 use Rattle.slice_json.specs.Message.{text_of_ends, text_of_fate}
@@ -18,6 +22,16 @@ use Rattle.slice_core_plan.specs.declared.transition.Transition.TheVariants as t
 use Rattle.slice_core_plan.specs.declared.transition.Transition.{Transition}
 use Rattle.slice_queues_message.specs.Pick.{channel_of, line_of}
 use Rattle.slice_queues_message.specs.declared.channel.Pick.{Pick}
+
+-- the line or the slice that something is shown of, after its name
+abbrev pub text_of_subject : Subject → List ℕ
+text_of_subject (subjects.Word word) = codes "\",\"line\":" ++ decimal (line_of_word word).0 ++ codes "}"
+text_of_subject (subjects.Line line) = codes "\",\"line\":" ++ decimal line.0 ++ codes "}"
+text_of_subject (subjects.Slice slice) = codes "\",\"slice\":" ++ decimal slice.0 ++ codes "}"
+text_of_subject subjects.Machine = codes "\"}"
+
+abbrev pub text_of_look : Look → List ℕ
+text_of_look look = codes "{\"name\":\"" ++ name_of_look look ++ text_of_subject (subject_of look)
 
 -- a command, by its name and what it names
 abbrev pub text_of_call : Command → List ℕ
@@ -31,13 +45,7 @@ text_of_call (commands.Deliver pick) =
     ++ codes "}"
 text_of_call (commands.Hand core slice) =
     codes "{\"name\":\"hand\",\"core\":" ++ (decimal core.0 ++ (codes ",\"slice\":" ++ (decimal slice.0 ++ codes "}")))
-text_of_call (commands.Word word) =
-    codes "{\"name\":\"word\",\"line\":" ++ decimal (line_of_word word).0 ++ codes "}"
-text_of_call (commands.State line) = codes "{\"name\":\"state\",\"line\":" ++ decimal line.0 ++ codes "}"
-text_of_call (commands.Log slice) = codes "{\"name\":\"log\",\"slice\":" ++ decimal slice.0 ++ codes "}"
-text_of_call commands.Stats = codes "{\"name\":\"stats\"}"
-text_of_call commands.Waiting = codes "{\"name\":\"waiting\"}"
-text_of_call commands.Show = codes "{\"name\":\"show\"}"
+text_of_call (commands.Look look) = text_of_look look
 text_of_call (commands.Pump calls) = codes "{\"name\":\"pump\"}"
 
 -- What the directory sends on forwarded channels for a core's request. Only there can a message follow another,

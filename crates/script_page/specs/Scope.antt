@@ -4,6 +4,7 @@ use Rattle.address_map.specs.Place.{line_of as line_of_word}
 use Rattle.address_map.specs.declared.address.CoreId.{CoreId}
 use Rattle.address_map.specs.declared.address.LineAddr.{LineAddr}
 use Rattle.address_map.specs.declared.config.Config.{Config}
+use Rattle.litmus_text.specs.Look.{line_of_look}
 use Rattle.litmus_text.specs.declared.command.Command.{Command}
 use Rattle.litmus_text.specs.declared.command.Command.TheVariants as commands
 use Rattle.script_page.specs.declared.scope.Scope.{Scope}
@@ -24,13 +25,17 @@ abbrev pub of_line : Config → LineAddr → Option CoreId → Bool → Option S
 of_line config line core evicts =
     Some (record { slice = line.0 % config.slices; line = Some line; core = core; evicts = evicts })
 
+-- what is shown of several lines or slices has none
+abbrev pub scope_of_look : Config → Option LineAddr → Option Scope
+scope_of_look config None = None
+scope_of_look config (Some line) = of_line config line None false
+
 -- what a command can change; an access can make another line leave. A pump's deliveries have scopes of their own.
 abbrev pub scope_of : Config → Command → Option Scope
 scope_of config (commands.Issue core request) = of_line config (line_of_word request.word) (Some core) true
 scope_of config (commands.Evict core line) = of_line config line (Some core) false
 scope_of config (commands.Deliver pick) = of_line config (line_of pick) (taker_of pick) false
-scope_of config (commands.Word word) = of_line config (line_of_word word) None false
-scope_of config (commands.State line) = of_line config line None false
+scope_of config (commands.Look look) = scope_of_look config (line_of_look look)
 scope_of config (commands.Hand core slice) =
     Some (record { slice = slice.0; line = None; core = Some core; evicts = false })
 scope_of config command = None

@@ -5,7 +5,7 @@ ghost use Rattle.slice_queues_message.specs.Pick.{channel_of};
 
 use address_map::{CoreId, LineAddr, SliceId};
 use directory_table::DirSends;
-use litmus_text::Command;
+use litmus_text::{Command, Look, Subject};
 use slice_core::{DeliveredNext, Pick, Plan, Transition};
 use slice_json::{Asked, CoreList, Ends, fate_by};
 use std::fmt;
@@ -46,18 +46,37 @@ impl fmt::Display for Call {
                 let slice = slice.0;
                 write!(f, "{{\"name\":\"hand\",\"core\":{core},\"slice\":{slice}}}")
             }
-            Command::Word(word) => {
-                let line = word.line().0;
-                write!(f, "{{\"name\":\"word\",\"line\":{line}}}")
+            Command::Look(look) => {
+                let shown = Shown(look);
+                write!(f, "{shown}")
             }
-            Command::State(LineAddr(line)) => {
-                write!(f, "{{\"name\":\"state\",\"line\":{line}}}")
-            }
-            Command::Log(SliceId(slice)) => write!(f, "{{\"name\":\"log\",\"slice\":{slice}}}"),
-            Command::Stats => f.write_str("{\"name\":\"stats\"}"),
-            Command::Waiting => f.write_str("{\"name\":\"waiting\"}"),
-            Command::Show => f.write_str("{\"name\":\"show\"}"),
             Command::Pump(_) => f.write_str("{\"name\":\"pump\"}"),
+        }
+    }
+}
+
+/// What is to be shown, by its name and the line or the slice that it is about.
+#[derive(Clone, Copy)]
+struct Shown(Look);
+
+impl fmt::Display for Shown {
+    ghost use Rattle.std.specs.Prelude.{Some};
+    ghost use Rattle.script_page.specs.Call.{text_of_look};
+
+    ghost output = { λ shown. Some (text_of_look shown.0) };
+
+    fn fmt<W: fmt::Write>(&self, f: &mut fmt::Formatter<W>) -> fmt::Result {
+        let name = self.0.name();
+        match self.0.subject() {
+            Subject::Word(word) => {
+                let line = word.line().0;
+                write!(f, "{{\"name\":\"{name}\",\"line\":{line}}}")
+            }
+            Subject::Line(LineAddr(line)) => write!(f, "{{\"name\":\"{name}\",\"line\":{line}}}"),
+            Subject::Slice(SliceId(slice)) => {
+                write!(f, "{{\"name\":\"{name}\",\"slice\":{slice}}}")
+            }
+            Subject::Machine => write!(f, "{{\"name\":\"{name}\"}}"),
         }
     }
 }

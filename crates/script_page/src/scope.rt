@@ -26,17 +26,17 @@ pub(crate) fn scope_of(config: &Checked, command: Command) -> Option<Scope>
         }
         Command::Evict { core, line } => Some(of_line(config, line, Some(core), false)),
         Command::Deliver(pick) => Some(of_line(config, pick.line(), taker_of(pick), false)),
-        Command::Word(word) => Some(of_line(config, word.line(), None, false)),
-        Command::State(line) => Some(of_line(config, line, None, false)),
         Command::Hand { core, slice } => Some(Scope {
             slice: slice.0 as usize,
             line: None,
             core: Some(core),
             evicts: false,
         }),
-        Command::Log(_) | Command::Stats | Command::Waiting | Command::Show | Command::Pump(_) => {
-            None
+        Command::Look(look) => {
+            let line = look.line()?;
+            Some(of_line(config, line, None, false))
         }
+        Command::Pump(_) => None,
     }
 }
 

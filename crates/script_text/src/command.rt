@@ -2,12 +2,13 @@ ghost use Rattle.std.specs.Prelude.{◌∷◌, OnOk, codes};
 ghost use Rattle.std.specs.Fmt.{WritesInCalls};
 ghost use Rattle.litmus_text.specs.Command.{parts_of, parts_of_op};
 ghost use Rattle.litmus_text.specs.Form.{key, num};
+ghost use Rattle.litmus_text.specs.Look.{name_of_look, parts_of_subject, subject_of};
 ghost use Rattle.script_text.specs.Line.{line_of_parts};
 
 use super::delivery::Delivery;
 use super::line::{write_number, write_pair};
 use address_map::{CoreId, Op, Request, WordAddr};
-use litmus_text::Command;
+use litmus_text::{Command, Look, Subject};
 use std::fmt;
 use std::fmt::Write;
 
@@ -25,13 +26,21 @@ pub fn write_command<W: Write>(command: Command, out: &mut W) -> fmt::Result
         Command::Hand { core, slice } => {
             write_pair("hand", u64::from(core.0), u64::from(slice.0), out)
         }
-        Command::Word(word) => write_number("word", word.0, out),
-        Command::State(line) => write_number("state", line.0, out),
-        Command::Log(slice) => write_number("log", u64::from(slice.0), out),
-        Command::Stats => writeln!(out, "stats"),
-        Command::Waiting => writeln!(out, "waiting"),
-        Command::Show => writeln!(out, "show"),
+        Command::Look(look) => write_look(look, out),
         Command::Pump(calls) => write_number("pump", calls, out),
+    }
+}
+
+fn write_look<W: Write>(look: Look, out: &mut W) -> fmt::Result
+    ensures { OnOk result (WritesInCalls W.write_str_gives out.old
+        (line_of_parts (key (name_of_look look) ∷ parts_of_subject (subject_of look))) out.new) }
+{
+    let name = look.name();
+    match look.subject() {
+        Subject::Word(word) => write_number(name, word.0, out),
+        Subject::Line(line) => write_number(name, line.0, out),
+        Subject::Slice(slice) => write_number(name, u64::from(slice.0), out),
+        Subject::Machine => writeln!(out, "{name}"),
     }
 }
 

@@ -136,12 +136,7 @@ one_tick config line (commands.Issue core request) old new before after other ti
 one_tick config line (commands.Evict core l) old new before after other tick = tick
 one_tick config line (commands.Deliver pick) old new before after other tick = tick
 one_tick config line (commands.Hand core slice) old new before after other tick = tick
-one_tick config line (commands.Word word) old new before after other tick = tick
-one_tick config line (commands.State l) old new before after other tick = tick
-one_tick config line (commands.Log slice) old new before after other tick = tick
-one_tick config line commands.Stats old new before after other tick = tick
-one_tick config line commands.Waiting old new before after other tick = tick
-one_tick config line commands.Show old new before after other tick = tick
+one_tick config line (commands.Look look) old new before after other tick = tick
 one_tick config line (commands.Pump calls) old new before after other tick = absurd (other calls refl)
 
 module _ (config other : Config) (commands : List (ℕ × List (List ℕ))) (now : Shown) (start : List PartsView)

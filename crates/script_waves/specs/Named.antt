@@ -4,6 +4,7 @@ use Rattle.address_map.specs.Place.{line_of as line_of_word}
 use Rattle.address_map.specs.declared.address.LineAddr.{LineAddr}
 use Rattle.address_map.specs.declared.config.Config.{Config}
 use Rattle.litmus_text.specs.Command.{HasLine}
+use Rattle.litmus_text.specs.Look.{line_of_look}
 use Rattle.litmus_text.specs.declared.command.Command.{Command}
 use Rattle.litmus_text.specs.declared.command.Command.TheVariants as commands
 use Rattle.slice_queues_message.specs.Pick.{line_of}
@@ -13,8 +14,7 @@ abbrev pub line_named : Command → Option LineAddr
 line_named (commands.Issue core request) = Some (line_of_word request.word)
 line_named (commands.Evict core line) = Some line
 line_named (commands.Deliver pick) = Some (line_of pick)
-line_named (commands.Word word) = Some (line_of_word word)
-line_named (commands.State line) = Some line
+line_named (commands.Look look) = line_of_look look
 line_named command = None
 
 -- what was named so far: a line of the memory that wasn't named yet goes last

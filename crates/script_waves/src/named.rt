@@ -40,14 +40,9 @@ fn line_named(command: Command) -> Option<LineAddr>
 {
     match command {
         Command::Issue { request, .. } => Some(request.word.line()),
-        Command::Evict { line, .. } | Command::State(line) => Some(line),
+        Command::Evict { line, .. } => Some(line),
         Command::Deliver(pick) => Some(pick.line()),
-        Command::Word(word) => Some(word.line()),
-        Command::Hand { .. }
-        | Command::Log(_)
-        | Command::Stats
-        | Command::Waiting
-        | Command::Show
-        | Command::Pump(_) => None,
+        Command::Look(look) => look.line(),
+        Command::Hand { .. } | Command::Pump(_) => None,
     }
 }

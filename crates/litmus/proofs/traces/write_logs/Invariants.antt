@@ -9,11 +9,9 @@ use Rattle.litmus.proofs.traces.write_logs.Given as goal
 abbrev pub invariant-loop-slice : goal.invariant-loop-slice
 invariant-loop-slice g l =
     let contents = g.W.Write.contents in
-    let built = l.fn.machine.config in
-    let states = l.fn.machine.slices.items in
+    let built = l.fn.machine.now.config in
+    let states = l.fn.machine.now.slices.items in
     record {
-      config : l.machine.config ≡ built;
-      slices : l.machine.slices.items ≡ states;
       written : (after : Option (List ℕ))
           → Appends (contents l.out) after (flat_map (text_of_slice built states) (numbers_from l.slice built.slices))
           → Appends (contents l.fn.out) after (text_of_slices built states built.slices);

@@ -5,20 +5,10 @@ pub returns-in_default-named-clause-fault : goal.returns-in_default-named-clause
 returns-in_default-named-clause-fault c =
     rw c.in-Some.ensures.cases.0 (unnamed_fault _ _ _ c.in_default-named.ensures.none)
 
-pub returns-in-Stats-clause-fault : goal.returns-in-Stats-clause-fault
-returns-in-Stats-clause-fault c =
-    rw (c.in-Some.ensures.cases.0, c.in-Some-named.ensures.found, c.in-Stats.is)
-    (c.parse_stats.ensures c.args.config.now).fault
-
-pub returns-in-Waiting-clause-fault : goal.returns-in-Waiting-clause-fault
-returns-in-Waiting-clause-fault c =
-    rw (c.in-Some.ensures.cases.0, c.in-Some-named.ensures.found, c.in-Waiting.is)
-    (c.parse_waiting.ensures c.args.config.now).fault
-
-pub returns-in-Show-clause-fault : goal.returns-in-Show-clause-fault
-returns-in-Show-clause-fault c =
-    rw (c.in-Some.ensures.cases.0, c.in-Some-named.ensures.found, c.in-Show.is)
-    (c.parse_show.ensures c.args.config.now).fault
+pub returns-in-Machine-clause-fault : goal.returns-in-Machine-clause-fault
+returns-in-Machine-clause-fault c =
+    rw (c.in-Some.ensures.cases.0, c.in-Some-named.ensures.found, c.in-Machine.is)
+    (c.parse_machine.ensures c.args.config.now).fault
 
 pub returns-in-Pump-clause-fault : goal.returns-in-Pump-clause-fault
 returns-in-Pump-clause-fault c =

@@ -1,5 +1,6 @@
 use Rattle.litmus_text.specs.Command.{IsInRange}
 use Rattle.litmus_text.specs.declared.command.Command.TheVariants as commands
+use Rattle.litmus_text.specs.declared.look.Look.TheVariants as looks
 use Rattle.litmus_text.proofs.CommandLemmas.{log_fault, reads_none}
 use Rattle.litmus_text.proofs.FaultLemmas.{lacks_one}
 use Rattle.litmus_text.proofs.parse.parse_log.Goals as goal
@@ -12,7 +13,7 @@ returns-in_err-slice c =
 pub returns-in_err-slice_in : goal.returns-in_err-slice_in
 returns-in_err-slice_in c =
     reads_none _ c.from_residual-in_err-slice_in.result c.from_residual-in_err-slice_in.ensures.1
-    (log_fault _ _ (λ p. IsInRange c.args.config.now (commands.Log (record { 0 = p }))) (λ p has. has) _
+    (log_fault _ _ (λ p. IsInRange c.args.config.now (commands.Look (looks.Log (record { 0 = p })))) (λ p has. has) _
     (lacks_one _ _ _ c.in_ok-slice.ensures.written c.in_ok-slice.ensures.only
     (λ has. c.in_err-slice_in.ensures.ok has) _
     c.in_err-slice_in.ensures.err))

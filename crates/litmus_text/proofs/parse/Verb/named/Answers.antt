@@ -1,4 +1,5 @@
 use Rattle.std.proofs.Common.{◌≡◌, ◌≢◌, ℕ, List, rules, map}
+use Rattle.litmus_text.specs.declared.look.MachineLook.TheVariants as machine_looks
 use Rattle.litmus_text.specs.declared.parse.TheConstants.{VERBS}
 use Rattle.litmus_text.specs.declared.parse.Verb.{Verb}
 use Rattle.litmus_text.specs.declared.parse.Verb.TheVariants as verbs
@@ -18,9 +19,9 @@ no_verb name other verbs.Hand = other.1.1.1.0
 no_verb name other verbs.Word = other.1.1.1.1.0
 no_verb name other verbs.State = other.1.1.1.1.1.0
 no_verb name other verbs.Log = other.1.1.1.1.1.1.0
-no_verb name other verbs.Stats = other.1.1.1.1.1.1.1.0
-no_verb name other verbs.Waiting = other.1.1.1.1.1.1.1.1.0
-no_verb name other verbs.Show = other.1.1.1.1.1.1.1.1.1.0
+no_verb name other (verbs.Machine machine_looks.Stats) = other.1.1.1.1.1.1.1.0
+no_verb name other (verbs.Machine machine_looks.Waiting) = other.1.1.1.1.1.1.1.1.0
+no_verb name other (verbs.Machine machine_looks.Show) = other.1.1.1.1.1.1.1.1.1.0
 no_verb name other verbs.Pump = other.1.1.1.1.1.1.1.1.1.1.0
 
 pub returns-clause-found : goal.returns-clause-found

@@ -1,13 +1,13 @@
 use Rattle.std.proofs.Common.{refl, rules}
 use Rattle.std.proofs.KnownBytes.{Appends-of_writes}
 use Rattle.litmus_script.proofs.WriteLemmas.{on_written}
-use Rattle.litmus_script.proofs.machine.Machine.run_word.Goals as goal
+use Rattle.litmus_script.proofs.machine.Machine.show_waiting.Goals as goal
 
 pub returns-clause-printed : goal.returns-clause-printed
 returns-clause-printed g c =
     let contents = g.W.Write.contents in
-    on_written c.write_word.result c.written.result c.written.ensures.fine
+    on_written c.write_waiting.result c.written.result c.written.ensures.fine
     (λ wrote.
     let (name, bytes) = Appends-of_writes (λ s. s.out.ghost_name) (λ s. contents s.out.now) _ _ _ wrote in
-    record { printed = (refl, _, c.word_now-shown.ensures.shown, search rules) })
-    c.write_word.ensures
+    record { printed = (refl, search rules) })
+    c.write_waiting.ensures

@@ -1,7 +1,7 @@
 use Rattle.std.proofs.Common.{refl, rules}
 use Rattle.std.proofs.KnownBytes.{Appends-of_writes}
 use Rattle.litmus_script.proofs.WriteLemmas.{on_written}
-use Rattle.litmus_script.proofs.machine.Machine.run_state.Goals as goal
+use Rattle.litmus_script.proofs.machine.Machine.show_state.Goals as goal
 
 pub returns-clause-printed : goal.returns-clause-printed
 returns-clause-printed g c =

@@ -2,7 +2,7 @@ use Rattle.std.proofs.Common.{refl, rules}
 use Rattle.std.proofs.KnownBytes.{Appends-of_writes}
 use Rattle.litmus_script.proofs.MachineLemmas.{have_cores}
 use Rattle.litmus_script.proofs.WriteLemmas.{on_written}
-use Rattle.litmus_script.proofs.machine.Machine.run_show.Goals as goal
+use Rattle.litmus_script.proofs.machine.Machine.show_moving.Goals as goal
 
 pub write_slices-requires : goal.write_slices-requires
 write_slices-requires g c =

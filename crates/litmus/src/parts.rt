@@ -6,9 +6,8 @@ ghost use Rattle.litmus_rounds.specs.Run.{HaveEnded, PrintsWalks};
 ghost use Rattle.litmus_rounds.specs.Sum.{sum_of};
 ghost use Rattle.mshr_file.specs.Miss.{Bound, bound_of};
 
-use litmus_outcomes::OutcomeForm;
 use litmus_rounds::{Merged, Part, first_other, sum_of};
-use litmus_test::{LitmusTest, Progress};
+use litmus_test::{LitmusTest, OutcomeForm, Progress};
 use litmus_text::TextFault;
 use std::alloc::Global;
 use std::io::Write;

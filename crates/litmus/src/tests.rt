@@ -6,10 +6,9 @@ ghost use Rattle.litmus_threads.specs.Trace.{IsTraceEnd};
 ghost use Rattle.litmus_walk.specs.Script.{PrintsWalk};
 ghost use Rattle.mshr_file.specs.Miss.{bound_of};
 ghost use Rattle.std.specs.Io.KnownBytes.{Appends};
-ghost use Rattle.litmus_outcomes.specs.declared.form.OutcomeForm.TheVariants as outcome_forms;
+ghost use Rattle.litmus_test.specs.declared.outcomes.form.OutcomeForm.TheVariants as outcome_forms;
 
-use litmus_outcomes::OutcomeForm;
-use litmus_test::{LitmusTest, Progress, Silent};
+use litmus_test::{LitmusTest, OutcomeForm, Progress, Silent};
 use litmus_text::TextFault;
 use litmus_threads::{play_test, trace_test};
 use std::alloc::Global;

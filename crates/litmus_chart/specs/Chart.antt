@@ -9,7 +9,7 @@ use Rattle.litmus_chart.specs.declared.arrow.Participant.TheVariants.{Directory,
 use Rattle.slice_answer.specs.Text.{text_of_cell}
 use Rattle.slice_queues_message.specs.declared.channel.Pick.{Pick}
 use Rattle.slice_queues_message.specs.declared.channel.Pick.TheVariants as picks
-use Rattle.step_text.specs.Message.{text_of_message}
+use Rattle.slice_text.specs.Message.{text_of_message}
 
 -- the name under which a participant is declared
 abbrev pub text_of_participant : Participant → List ℕ

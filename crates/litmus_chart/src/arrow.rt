@@ -4,7 +4,7 @@ ghost use Rattle.litmus_chart.specs.Chart.{receiver_of, sender_of};
 use address_map::{CoreId, LineAddr};
 use slice_core::{Cell, Message, Pick};
 use std::fmt;
-use step_text::MessageName;
+use slice_text::MessageName;
 
 /// Who takes part in a chart.
 #[derive(Clone, Copy, Debug, PartialEq, Eq)]

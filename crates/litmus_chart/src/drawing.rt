@@ -3,11 +3,11 @@ use super::arrow::Participant;
 use super::space_time::{Flown, Mark, SpaceTime, Span, State, What};
 use super::style::STYLE;
 use address_map::CoreId;
-use script_text::write_command;
+use litmus_text::write_command;
 use slice_core::{Entry, Op, Pick};
 use std::fmt;
 use std::fmt::Write;
-use step_text::{Asked, MessageName};
+use slice_text::{Asked, MessageName};
 
 // In pixels: where the first lifeline stands, how far the next, where the first row, how far the next, half a bar.
 const FIRST_LIFE: usize = 270;

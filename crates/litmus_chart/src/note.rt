@@ -5,7 +5,7 @@ use litmus_text::Statement;
 use slice_core::LineView;
 use std::fmt::{Display, Write};
 use std::{fmt, io};
-use step_text::Cores;
+use slice_text::Cores;
 
 /// Writes who takes part: the directory of each slice, and then each core.
 pub fn write_participants<W: Write>(config: &Checked, out: &mut W) -> fmt::Result {

@@ -5,8 +5,8 @@ use Rattle.std.proofs.lemmas.List.{append-nil, take_more}
 use Rattle.std.proofs.lemmas.List.Elements.{All-contains}
 use Rattle.address_map.specs.declared.address.WordAddr.{WordAddr}
 use Rattle.address_map.specs.declared.config.Config.{Config}
-use Rattle.litmus_outcomes.specs.NamedRequest.{IsOf}
-use Rattle.litmus_outcomes.specs.declared.named_request.NamedRequest.{NamedRequest}
+use Rattle.litmus_test.specs.NamedRequest.{IsOf}
+use Rattle.litmus_test.specs.declared.outcomes.named_request.NamedRequest.{NamedRequest}
 use Rattle.litmus_script.specs.Machine.{IsShownWord, log_at}
 use Rattle.slice_core_plan.specs.Calls.{PartsView}
 use Rattle.litmus_rounds.specs.Outcome.{AddsMatch, HasReply, HasWord, LacksReply, Match}

@@ -2,11 +2,11 @@
 use Rattle.std.proofs.Common.{◌≡◌, ◌⊎◌, ℕ, ◌+◌, List, [], ◌∷◌, ◌++◌, ap, arith, inl, inr, refl, subst, sym, ◌∙◌}
 use Rattle.std.specs.Prelude.{◌≢◌, All}
 use Rattle.std.proofs.lemmas.List.Elements.{All-head}
-use Rattle.litmus_outcomes.proofs.Between.{All-back, All-front}
-use Rattle.litmus_outcomes.specs.Ended.{ended_behind}
-use Rattle.litmus_outcomes.specs.Table.{TableView}
-use Rattle.litmus_outcomes.specs.declared.ended.Ended.{Ended}
-use Rattle.litmus_outcomes.specs.declared.ended.Ended.TheVariants as ended_kinds
+use Rattle.litmus_test.proofs.Between.{All-back, All-front}
+use Rattle.litmus_test.specs.Ended.{ended_behind}
+use Rattle.litmus_test.specs.Table.{TableView}
+use Rattle.litmus_test.specs.declared.outcomes.ended.Ended.{Ended}
+use Rattle.litmus_test.specs.declared.outcomes.ended.Ended.TheVariants as ended_kinds
 use Rattle.litmus_rounds.specs.declared.part.Part.{Part}
 use Rattle.litmus_rounds.specs.Merge.{AddsRounds, IsMergeOf, MayFollow, MissesTo}
 use Rattle.litmus_rounds.specs.Parts.{IsPartOf}

@@ -4,8 +4,8 @@ use Rattle.std.proofs.Common.{get_or, take, ◌∙◌}
 use Rattle.std.specs.Prelude.{◌≢◌, ◌≤◌, ltb, Option, Some, None, All, IfSome, is_some}
 use Rattle.std.specs.Borrow.{Bor}
 use Rattle.std.proofs.lemmas.List.Quantifiers.{Any-push}
-use Rattle.litmus_outcomes.specs.declared.ended.Ended.{Ended}
-use Rattle.litmus_outcomes.specs.declared.ended.Ended.TheVariants as ended_kinds
+use Rattle.litmus_test.specs.declared.outcomes.ended.Ended.{Ended}
+use Rattle.litmus_test.specs.declared.outcomes.ended.Ended.TheVariants as ended_kinds
 use Rattle.std.specs.Io.KnownBytes.{Appends}
 use Rattle.std.proofs.KnownBytes.{Appends-nil, Appends-trans}
 use Rattle.std.proofs.Math.ListN.{get_or-append}

@@ -7,10 +7,10 @@ use Rattle.std.proofs.lemmas.Bool.{cases_lt}
 use native.Mathlib.Nat.{mul-le-mul_right, suc-mul}
 use Rattle.std.specs.Prelude.{◌≢◌, ◌*◌, ◌^◌, slice_get, Some}
 use Rattle.std.proofs.lemmas.Bool.Decides.{nat_tests}
-use Rattle.litmus_outcomes.specs.Table.{IsTableOf, TableView}
-use Rattle.litmus_outcomes.specs.Ended.{ended_behind, round_of}
-use Rattle.litmus_outcomes.specs.declared.ended.Ended.{Ended}
-use Rattle.litmus_outcomes.specs.declared.ended.Ended.TheVariants as ended_kinds
+use Rattle.litmus_test.specs.Table.{IsTableOf, TableView}
+use Rattle.litmus_test.specs.Ended.{ended_behind, round_of}
+use Rattle.litmus_test.specs.declared.outcomes.ended.Ended.{Ended}
+use Rattle.litmus_test.specs.declared.outcomes.ended.Ended.TheVariants as ended_kinds
 use Rattle.litmus_rounds.specs.Run.{AreRounds, GivesUp, HaveEnded, IsRound, IsStuck, seed_of, status_of}
 use Rattle.litmus_test.specs.declared.test.LitmusTest.{LitmusTest}
 use Rattle.litmus_walk.proofs.DoneLemmas.{found, item-at}

@@ -1,8 +1,8 @@
 -- Parts put together.
 use Rattle.std.specs.Prelude.{◌≡◌, ◌≢◌, ℕ, ◌+◌, ◌≤◌, ◌<◌, ◌^◌, List, [], ◌++◌, length, All}
-use Rattle.litmus_outcomes.specs.Ended.{ended_behind, round_of}
-use Rattle.litmus_outcomes.specs.Table.{IsTableOf}
-use Rattle.litmus_outcomes.specs.declared.ended.Ended.TheVariants as ended_kinds
+use Rattle.litmus_test.specs.Ended.{ended_behind, round_of}
+use Rattle.litmus_test.specs.Table.{IsTableOf}
+use Rattle.litmus_test.specs.declared.outcomes.ended.Ended.TheVariants as ended_kinds
 use Rattle.litmus_rounds.specs.Parts.{IsPartOf, count_of_parts}
 use Rattle.litmus_rounds.specs.Run.{HaveEnded, seed_of}
 use Rattle.litmus_rounds.specs.declared.merge.Merged.{Merged}

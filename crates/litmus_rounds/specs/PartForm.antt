@@ -1,9 +1,9 @@
 -- The text of a part.
 use Rattle.std.specs.Prelude.{◌≡◌, ◌<◌, ℕ, ◌+◌, ◌-◌, ◌%◌, ◌^◌, ◌==◌, if◌then◌else◌, List, ◌++◌, codes, decimal}
 use Rattle.std.specs.List.{flat_map}
-use Rattle.litmus_outcomes.specs.Table.{RowView}
-use Rattle.litmus_outcomes.specs.declared.ended.Ended.{Ended}
-use Rattle.litmus_outcomes.specs.declared.ended.Ended.TheVariants as ended_kinds
+use Rattle.litmus_test.specs.Table.{RowView}
+use Rattle.litmus_test.specs.declared.outcomes.ended.Ended.{Ended}
+use Rattle.litmus_test.specs.declared.outcomes.ended.Ended.TheVariants as ended_kinds
 use Rattle.litmus_rounds.specs.declared.part.Part.{Part}
 use Rattle.litmus_rounds.specs.declared.part.TheConstants.{FORMAT, VERSION}
 

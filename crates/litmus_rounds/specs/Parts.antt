@@ -1,8 +1,8 @@
 -- A walk in parts, and parts put together.
 use Rattle.std.specs.Prelude.{◌≡◌, ◌≢◌, ◌⊎◌, ℕ, ◌<◌, ◌≤◌, List, length, take, sum_by, slice_index_or, All, Any, Option}
 use Rattle.std.specs.Io.KnownBytes.{Appends}
-use Rattle.litmus_outcomes.specs.declared.ended.Ended.{Ended}
-use Rattle.litmus_outcomes.specs.declared.ended.Ended.TheVariants as ended_kinds
+use Rattle.litmus_test.specs.declared.outcomes.ended.Ended.{Ended}
+use Rattle.litmus_test.specs.declared.outcomes.ended.Ended.TheVariants as ended_kinds
 use Rattle.litmus_rounds.specs.PartForm.{text_of_part, text_of_parts}
 use Rattle.litmus_rounds.specs.Run.{HaveEnded, seed_of}
 use Rattle.litmus_rounds.specs.declared.part.Part.{Part}

@@ -3,11 +3,11 @@ use Rattle.std.specs.Prelude.{◌≡◌, ◌⊎◌, ℕ, ◌+◌, ◌*◌, ◌%�
 use Rattle.std.specs.Prelude.{count_by, nat_eq, if◌then◌else◌, slice_get, slice_index_or, IfOk, Option, Result, Some}
 use Rattle.std.specs.declared.alloc.AllocError.{AllocError}
 use Rattle.std.specs.Io.KnownBytes.{Appends}
-use Rattle.litmus_outcomes.specs.Forbid.{is_forbidden}
-use Rattle.litmus_outcomes.specs.Table.{IsTableOf, TableView}
+use Rattle.litmus_test.specs.Forbid.{is_forbidden}
+use Rattle.litmus_test.specs.Table.{IsTableOf, TableView}
 use Rattle.litmus_rounds.specs.Outcome.{IsOutcome}
-use Rattle.litmus_outcomes.specs.declared.ended.Ended.{Ended}
-use Rattle.litmus_outcomes.specs.declared.ended.Ended.TheVariants as ended_kinds
+use Rattle.litmus_test.specs.declared.outcomes.ended.Ended.{Ended}
+use Rattle.litmus_test.specs.declared.outcomes.ended.Ended.TheVariants as ended_kinds
 use Rattle.litmus_rounds.specs.declared.batch.Batch.{Batch}
 use Rattle.litmus_rounds.specs.declared.stretch.Stretch.{Stretch}
 use Rattle.litmus_test.specs.declared.test.LitmusTest.{LitmusTest}
@@ -17,8 +17,8 @@ use Rattle.litmus_walk.specs.Walk.{IsWalkOf, WalkView}
 use Rattle.litmus_walk.specs.declared.round.End.{End}
 use Rattle.litmus_walk.specs.declared.round.End.TheVariants as ends
 use Rattle.mshr_file.specs.Miss.{Bound}
-use Rattle.litmus_outcomes.specs.Form.{text_of_gave_up, text_of_outcomes, text_of_stuck}
-use Rattle.litmus_outcomes.specs.declared.form.OutcomeForm.{OutcomeForm}
+use Rattle.litmus_test.specs.Form.{text_of_gave_up, text_of_outcomes, text_of_stuck}
+use Rattle.litmus_test.specs.declared.outcomes.form.OutcomeForm.{OutcomeForm}
 use Rattle.slice_core_plan.specs.View.{IsQuiet}
 
 -- the values are the outcome of the walk that the seed draws on a new machine of the test, with `most` moves at most, in

@@ -1,7 +1,7 @@
 //! Rounds side by side: each job walks a stretch of consecutive rounds, and the stretches are put together in their order.
 ghost use Rattle.std.specs.Prelude.{◌≡◌, ℕ, ◌+◌, ◌*◌, ◌<◌, ◌≤◌, ◌^◌, [], IfOk, length};
-ghost use Rattle.litmus_outcomes.specs.Ended.{round_of};
-ghost use Rattle.litmus_outcomes.specs.Table.{IsTableOf};
+ghost use Rattle.litmus_test.specs.Ended.{round_of};
+ghost use Rattle.litmus_test.specs.Table.{IsTableOf};
 ghost use Rattle.litmus_rounds.specs.Outcome.{all_named_requests};
 ghost use Rattle.litmus_rounds.specs.Run.{AreRounds, AreStretches, HaveEnded, IsStretch, rounds_of, seed_of};
 ghost use Rattle.mshr_file.specs.Miss.{bound_of};
@@ -11,8 +11,7 @@ ghost use Rattle.mshr_file.specs.Miss.{Bound};
 
 use super::stretch::{Stretch, walk_stretch};
 use address_map::LineAddr;
-use litmus_outcomes::{Ended, NamedRequest, Outcomes};
-use litmus_test::{LitmusTest, Progress};
+use litmus_test::{Ended, LitmusTest, NamedRequest, Outcomes, Progress};
 use litmus_walk::named_lines;
 use std::alloc::{AllocError, Global};
 use std::thread;

@@ -1,7 +1,7 @@
 //! Parts put together: the table of all their rounds, each counted once.
 ghost use Rattle.std.specs.Prelude.{◌≡◌, ◌+◌, ◌≤◌, ◌<◌, ◌^◌, List, [], ◌∷◌, ◌++◌, All, IfErr, IfOk, IsTrue, OnOk};
 ghost use Rattle.std.specs.Prelude.{IsPermutation, map};
-ghost use Rattle.litmus_outcomes.specs.Ended.{round_of};
+ghost use Rattle.litmus_test.specs.Ended.{round_of};
 ghost use Rattle.litmus_rounds.specs.Merge.{AddsRounds, IsMergeOf, MayFollow, MissesTo};
 ghost use Rattle.litmus_rounds.specs.Parts.{IsPartOf};
 ghost use Rattle.litmus_rounds.specs.Run.{HaveEnded, PrintsWalks};
@@ -14,8 +14,7 @@ use super::part::{Gap, Part};
 use super::part_fault::PartFault;
 use super::part_read::{Found, read_parts};
 use super::run::print_ended;
-use litmus_outcomes::{Ended, OutcomeForm, Outcomes};
-use litmus_test::LitmusTest;
+use litmus_test::{Ended, LitmusTest, OutcomeForm, Outcomes};
 use litmus_text::TextFault;
 use std::alloc::{AllocError, Global};
 use std::io::Write;

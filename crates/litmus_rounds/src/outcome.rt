@@ -1,8 +1,7 @@
 ghost use Rattle.std.specs.Prelude.{◌≡◌, ℕ, List, [], IfNone, IfOk, IfSome, IsTrue, false};
 ghost use Rattle.litmus_rounds.specs.Outcome.{AddsMatch, HasReply, HasWord, IsOutcome, LacksReply, Match, all_named_requests};
 
-use litmus_outcomes::NamedRequest;
-use litmus_test::LitmusTest;
+use litmus_test::{LitmusTest, NamedRequest};
 use litmus_walk::Recorded;
 use std::alloc::AllocError;
 

@@ -1,7 +1,7 @@
 ghost use Rattle.std.specs.Prelude.{◌↔◌, IsTrue};
 ghost use Rattle.litmus_rounds.specs.PartForm.{IsWhole};
 
-use litmus_outcomes::{Ended, Outcomes};
+use litmus_test::{Ended, Outcomes};
 use thiserror::Error;
 
 /// The version of the format of parts.

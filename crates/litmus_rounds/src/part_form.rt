@@ -6,7 +6,7 @@ ghost use Rattle.litmus_rounds.specs.PartForm.{value_of, walk_of, word_of};
 
 use super::part::{FORMAT, Part, VERSION};
 use itoa::Buffer;
-use litmus_outcomes::{Ended, Row};
+use litmus_test::{Ended, Row};
 use std::alloc::AllocError;
 
 /// Adds the text of a part.

@@ -6,7 +6,7 @@ ghost use Rattle.litmus_rounds.specs.PartForm.{text_of_parts};
 use super::part::{FORMAT, Gap, Part, VERSION};
 use super::part_fault::PartFault;
 use super::part_form::push_part;
-use litmus_outcomes::{Ended, Outcomes};
+use litmus_test::{Ended, Outcomes};
 use litmus_text::parse_number;
 use std::alloc::{AllocError, Global};
 

@@ -1,16 +1,15 @@
 ghost use Rattle.std.specs.Prelude.{ℕ, ◌<◌, List, IfErr, IfOk, OnOk, Some};
 ghost use Rattle.std.specs.Io.KnownBytes.{Appends};
-ghost use Rattle.litmus_outcomes.specs.Table.{IsTableOf};
+ghost use Rattle.litmus_test.specs.Table.{IsTableOf};
 ghost use Rattle.litmus_rounds.specs.Run.{HaveEnded, PrintsWalks};
 ghost use Rattle.mshr_file.specs.Miss.{Bound};
 ghost use Rattle.mshr_file.specs.Miss.{bound_of};
 ghost use Rattle.litmus_script.specs.Play.{IsOfRun};
-ghost use Rattle.litmus_outcomes.specs.Form.{text_of_gave_up, text_of_outcomes, text_of_stuck};
+ghost use Rattle.litmus_test.specs.Form.{text_of_gave_up, text_of_outcomes, text_of_stuck};
 
 use super::batch::walk_batches;
-use litmus_outcomes::{Ended, OutcomeForm, Outcomes, write_gave_up, write_outcomes, write_stuck};
 use litmus_script::TextWriter;
-use litmus_test::{LitmusTest, Progress};
+use litmus_test::{Ended, LitmusTest, OutcomeForm, Outcomes, Progress, write_gave_up, write_outcomes, write_stuck};
 use litmus_text::TextFault;
 use std::alloc::Global;
 use std::io::Write;

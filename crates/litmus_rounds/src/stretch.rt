@@ -1,6 +1,6 @@
 //! Consecutive rounds, one after another, and their table.
 ghost use Rattle.std.specs.Prelude.{◌≡◌, ℕ, ◌+◌, ◌<◌, ◌^◌, List, [], ◌∷◌, ◌++◌, IfOk, IsTrue, false};
-ghost use Rattle.litmus_outcomes.specs.Table.{IsTableOf};
+ghost use Rattle.litmus_test.specs.Table.{IsTableOf};
 ghost use Rattle.litmus_rounds.specs.Outcome.{IsOutcome, all_named_requests};
 ghost use Rattle.litmus_rounds.specs.Run.{HaveEnded, IsStretch};
 ghost use Rattle.mshr_file.specs.Miss.{bound_of};
@@ -8,8 +8,7 @@ ghost use Rattle.litmus_walk.specs.Drawn.{lines_of};
 
 use super::outcome::read_outcome;
 use address_map::LineAddr;
-use litmus_outcomes::{Ended, NamedRequest, Outcomes};
-use litmus_test::LitmusTest;
+use litmus_test::{Ended, LitmusTest, NamedRequest, Outcomes};
 use litmus_walk::{End, Walked, walk};
 use std::alloc::{AllocError, Global};
 

@@ -4,7 +4,7 @@ use Rattle.address_map.specs.declared.request.Op.{Op}
 use Rattle.address_map.specs.declared.request.Op.TheVariants as ops
 use Rattle.litmus_text.specs.Command.{parts_of_op}
 use Rattle.litmus_text.specs.Form.{Part, key, num}
-use Rattle.script_text.specs.Line.{line_of_parts, text_of_parts}
+use Rattle.litmus_text.specs.Line.{line_of_parts, text_of_parts}
 
 -- a number after a blank
 abbrev pub spaced : ℕ → List ℕ

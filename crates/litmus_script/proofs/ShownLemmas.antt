@@ -2,7 +2,7 @@
 use Rattle.std.proofs.Common.{◌≡◌, ℕ, List, ◌++◌, map, ap}
 use Rattle.std.proofs.lemmas.Grind.{flat_map-append}
 use Rattle.address_map.specs.declared.address.WordAddr.{WordAddr}
-use Rattle.script_text.specs.Line.{line_of_parts}
+use Rattle.litmus_text.specs.Line.{line_of_parts}
 use Rattle.slice_log.specs.declared.entry.Entry.{Entry}
 use Rattle.trace_check.specs.TraceLine.{parts_of_first, parts_of_line}
 use Rattle.trace_check.specs.declared.trace_line.TraceLine.{TraceLine}

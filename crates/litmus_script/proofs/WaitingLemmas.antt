@@ -6,12 +6,12 @@ use Rattle.std.proofs.lemmas.Grind.{flat_map-append}
 use Rattle.std.specs.Fmt.{WritesInCalls}
 use Rattle.std.specs.List.{slice_get}
 use Rattle.address_map.specs.declared.address.Local.{Local}
-use Rattle.step_text.specs.Message.{text_of_message}
+use Rattle.slice_text.specs.Message.{text_of_message}
 use Rattle.litmus_script.specs.Waiting.{flights_of, in_flight, lines_of, picks_of, receiver_state, text_at}
 use Rattle.litmus_script.specs.Waiting.{text_in_front, text_of_flights, text_of_plan}
 use Rattle.litmus_text.specs.Command.{parts_of}
 use Rattle.litmus_text.specs.declared.command.Command.TheVariants.{Deliver}
-use Rattle.script_text.specs.Line.{text_of_parts}
+use Rattle.litmus_text.specs.Line.{text_of_parts}
 use Rattle.slice_core.specs.Facts.{front_at}
 use Rattle.slice_answer.specs.declared.answer.Cell.{Cell}
 use Rattle.slice_core_plan.specs.Calls.{PartsView}

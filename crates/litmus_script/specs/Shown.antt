@@ -4,7 +4,7 @@ use Rattle.std.specs.List.{flat_map, list_any}
 use Rattle.address_map.specs.declared.address.WordAddr.{WordAddr}
 use Rattle.address_map.specs.declared.request.Op.{Op}
 use Rattle.address_map.specs.declared.request.Op.TheVariants as ops
-use Rattle.script_text.specs.Line.{line_of_parts}
+use Rattle.litmus_text.specs.Line.{line_of_parts}
 use Rattle.slice_log.specs.declared.entry.Entry.{Entry}
 use Rattle.trace_check.specs.Trace.{body_of}
 use Rattle.trace_check.specs.TraceLine.{cores_of, parts_of_first, parts_of_line}

@@ -7,7 +7,7 @@ use Rattle.cache_table.specs.Name.{name_of as name_of_copy}
 use Rattle.directory_table.specs.Name.{name_of as name_of_entry}
 use Rattle.litmus_text.specs.Command.{parts_of}
 use Rattle.litmus_text.specs.declared.command.Command.TheVariants as commands
-use Rattle.script_text.specs.Line.{text_of_parts}
+use Rattle.litmus_text.specs.Line.{text_of_parts}
 use Rattle.slice_core.specs.Facts.{front_at}
 use Rattle.slice_answer.specs.Text.{text_of_cell}
 use Rattle.slice_core_plan.specs.Calls.{PartsView}
@@ -20,7 +20,7 @@ use Rattle.slice_queues_message.specs.declared.channel.Channel.{Channel}
 use Rattle.slice_queues_message.specs.declared.channel.Channel.TheVariants as channels
 use Rattle.slice_queues_message.specs.declared.channel.Pick.{Pick}
 use Rattle.slice_queues_message.specs.declared.message.Message.{Message}
-use Rattle.step_text.specs.Message.{text_of_message}
+use Rattle.slice_text.specs.Message.{text_of_message}
 use Rattle.slice_answer.specs.declared.answer.Delivery.TheVariants as deliveries
 use Rattle.slice_answer.specs.declared.answer.Delivery.{Delivery}
 use Rattle.slice_core_plan.specs.declared.transition.Transition.{Transition}

@@ -1,6 +1,6 @@
 ghost use Rattle.std.specs.Prelude.{◌≡◌, OnOk, map};
 ghost use Rattle.std.specs.Fmt.{WritesInCalls};
-ghost use Rattle.script_text.specs.Line.{line_of_parts};
+ghost use Rattle.litmus_text.specs.Line.{line_of_parts};
 ghost use Rattle.trace_check.specs.TraceLine.{parts_of_first};
 ghost use Rattle.trace_check.specs.declared.trace_line.TraceLine.TheVariants as trace_lines;
 ghost use Rattle.litmus_script.specs.Shown.{has_compare_exchange, text_of_lines, text_of_trace, version_for};

@@ -2,7 +2,7 @@
 //! for each access.
 ghost use Rattle.std.specs.Prelude.{◌≡◌, ◌+◌, ◌≤◌, [], ◌++◌, length, codes, decimal, OnOk};
 ghost use Rattle.std.specs.Fmt.{WritesInCalls};
-ghost use Rattle.script_text.specs.Line.{line_of_parts, text_of_parts};
+ghost use Rattle.litmus_text.specs.Line.{line_of_parts, text_of_parts};
 ghost use Rattle.litmus_text.specs.Command.{parts_of_op};
 ghost use Rattle.trace_check.specs.TraceLine.{parts_of_line};
 ghost use Rattle.trace_check.specs.declared.trace_line.TraceLine.TheVariants as trace_lines;

@@ -19,13 +19,12 @@ use super::answers::{TextWriter, written};
 use super::machine::Machine;
 use address_map::CoreId;
 use arrayvec::ArrayVec;
-use litmus_text::TextFault;
+use litmus_text::{Delivery, TextFault};
 use mshr_file::EitherFile;
-use script_text::Delivery;
 use slice_core::{CopyState, Pick, Plan, SliceState};
 use std::fmt::Write;
 use std::{fmt, io};
-use step_text::MessageName;
+use slice_text::MessageName;
 
 impl Machine {
     /// Shows the messages in flight.

@@ -7,3 +7,12 @@ mod PreambleLemmas
 mod FaultLemmas
 mod CountLemmas
 mod SettingLemmas
+pub mod NameLemmas
+pub mod Between
+mod NamedRequestLemmas
+mod Counting
+mod Rows
+mod Joining
+mod Cells
+mod Padding
+mod Unique

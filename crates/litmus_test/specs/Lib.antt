@@ -6,3 +6,10 @@ pub mod Claim
 pub mod Text
 pub mod Reading
 pub mod Fault
+pub mod NamedRequest
+pub mod Table
+pub mod Ended
+pub mod Forbid
+pub mod Form
+pub mod Json
+pub mod OutcomesText

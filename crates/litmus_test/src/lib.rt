@@ -9,6 +9,10 @@
 //! fault of its own (specs/Text.antt).
 #![tactic(auto)]
 
+pub use outcomes::{
+    Ended, NamedRequest, OutcomeForm, Outcomes, Row, each_name_is_sought, one_table, write_gave_up,
+    write_outcomes, write_stuck, write_table,
+};
 pub use progress::{Progress, Silent};
 pub use test::{
     Action, Forbidden, LONGEST_NAME, LitmusTest, MOST_MOVERS, MOST_NAMES, MOST_PAIRS, MOST_ROUNDS,
@@ -20,6 +24,7 @@ mod claim;
 mod keyword;
 mod line;
 mod name;
+mod outcomes;
 mod preamble;
 mod progress;
 mod reader;

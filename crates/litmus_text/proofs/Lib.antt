@@ -13,3 +13,8 @@ pub mod PolicyLemmas
 pub mod FieldLemmas
 pub mod FaultLemmas
 pub mod ConfigLineLemmas
+pub mod WrittenLemmas
+pub mod Numbers
+pub mod Pieces
+pub mod SettingsLemmas
+pub mod Commas

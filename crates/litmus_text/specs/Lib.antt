@@ -13,3 +13,7 @@ pub mod Table
 pub mod Verb
 pub mod Access
 pub mod Class
+pub mod Line
+pub mod SettingsLines
+pub mod JsonList
+pub mod JsonNumber

@@ -20,6 +20,7 @@ pub use command::Command;
 pub use config_line::ConfigLine;
 pub use fault::{LineFault, TextFault};
 pub use field::Count;
+pub use json::{Number, is_exact, write_comma};
 pub use line::Lines;
 pub use look::{Look, MachineLook, Subject};
 pub use number::{
@@ -32,12 +33,14 @@ pub use slot::Slot;
 pub use statement::{Statement, Statements};
 pub use table::value_named;
 pub use word::Words;
+pub use writer::{Delivery, write_command, write_settings};
 
 mod channel;
 mod command;
 mod config_line;
 mod fault;
 mod field;
+mod json;
 mod line;
 mod look;
 mod number;
@@ -49,3 +52,4 @@ mod slot;
 mod statement;
 mod table;
 mod word;
+mod writer;

@@ -11,7 +11,7 @@ use Rattle.address_map.specs.declared.config.Config.{Config}
 use Rattle.address_map.specs.declared.request.Op.{Op}
 use Rattle.core_thread_system.specs.Core.{CoreView, asked_of}
 use Rattle.core_thread_system.specs.Program.{accesses_of}
-use Rattle.litmus_outcomes.specs.NamedRequest.{requests_in}
+use Rattle.litmus_test.specs.NamedRequest.{requests_in}
 use Rattle.litmus_test.specs.declared.test.Action.{Action}
 use Rattle.litmus_test.specs.declared.test.Action.TheVariants as actions
 use Rattle.litmus_test.specs.declared.test.Thread.{Thread}

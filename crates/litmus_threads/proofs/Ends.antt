@@ -6,8 +6,8 @@ use Rattle.std.specs.Fmt.{WritesInCalls}
 use Rattle.std.proofs.lemmas.List.Elements.{All-push}
 use Rattle.address_map.specs.declared.config.Config.{Config}
 use Rattle.drain.specs.declared.report.CounterValue.{CounterValue}
-use Rattle.litmus_outcomes.specs.Table.{IsTableOf, TableView}
-use Rattle.litmus_outcomes.specs.declared.named_request.NamedRequest.{NamedRequest}
+use Rattle.litmus_test.specs.Table.{IsTableOf, TableView}
+use Rattle.litmus_test.specs.declared.outcomes.named_request.NamedRequest.{NamedRequest}
 use Rattle.litmus_test.specs.declared.test.LitmusTest.{LitmusTest}
 use Rattle.litmus_test.specs.declared.test.Thread.{Thread}
 use Rattle.litmus_text.specs.declared.fault.TextFault.{TextFault}
@@ -16,8 +16,8 @@ use Rattle.litmus_threads.specs.Round.{IsFoundOn, IsOutcomeOf, IsRoundOf, IsRunO
 use Rattle.litmus_threads.specs.Run.{HasStatus, IsEndOf, IsTold}
 use Rattle.litmus_threads.specs.declared.rounds.Run.{Run}
 use Rattle.litmus_threads.specs.declared.rounds.Run.TheVariants as runs
-use Rattle.litmus_outcomes.specs.Form.{text_of_outcomes, text_of_stuck}
-use Rattle.litmus_outcomes.specs.declared.form.OutcomeForm.{OutcomeForm}
+use Rattle.litmus_test.specs.Form.{text_of_outcomes, text_of_stuck}
+use Rattle.litmus_test.specs.declared.outcomes.form.OutcomeForm.{OutcomeForm}
 use Rattle.receipt_ledger.specs.declared.receipt.Receipt.{Receipt}
 
 -- One round more had an outcome of the test, and was counted.

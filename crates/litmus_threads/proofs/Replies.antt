@@ -2,7 +2,7 @@
 use Rattle.std.proofs.Common.{◌≡◌, ℕ, ◌+◌, ◌<◌, List, [], ◌∷◌, ◌++◌, Option, get_or, length, subst, sym, take}
 use Rattle.std.proofs.lemmas.List.{take_more}
 use Rattle.std.specs.List.{AllZip}
-use Rattle.litmus_outcomes.specs.declared.named_request.NamedRequest.{NamedRequest}
+use Rattle.litmus_test.specs.declared.outcomes.named_request.NamedRequest.{NamedRequest}
 use Rattle.litmus_threads.specs.Found.{HasReply}
 use Rattle.receipt_ledger.specs.declared.receipt.Receipt.{Receipt}
 

@@ -2,8 +2,8 @@
 use Rattle.std.specs.Prelude.{◌≡◌, ℕ, List, ◌++◌, Option, All, Contains, IfSome, IsSomeAnd, map}
 use Rattle.std.specs.List.{AllZip}
 use Rattle.drain.specs.declared.report.CounterValue.{CounterValue}
-use Rattle.litmus_outcomes.specs.NamedRequest.{IsOf}
-use Rattle.litmus_outcomes.specs.declared.named_request.NamedRequest.{NamedRequest}
+use Rattle.litmus_test.specs.NamedRequest.{IsOf}
+use Rattle.litmus_test.specs.declared.outcomes.named_request.NamedRequest.{NamedRequest}
 use Rattle.receipt_ledger.specs.declared.receipt.Receipt.{Receipt}
 
 -- The reply is that of a receipt of the request.

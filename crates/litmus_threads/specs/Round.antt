@@ -5,9 +5,9 @@ use Rattle.address_map.specs.declared.config.Config.{Config}
 use Rattle.core_thread_system.specs.Core.{CoreView}
 use Rattle.drain.specs.Audited.{IsAudited}
 use Rattle.drain.specs.declared.report.CounterValue.{CounterValue}
-use Rattle.litmus_outcomes.specs.NamedRequest.{named_request_of}
-use Rattle.litmus_outcomes.specs.Table.{IsTableOf, TableView}
-use Rattle.litmus_outcomes.specs.declared.named_request.NamedRequest.{NamedRequest}
+use Rattle.litmus_test.specs.NamedRequest.{named_request_of}
+use Rattle.litmus_test.specs.Table.{IsTableOf, TableView}
+use Rattle.litmus_test.specs.declared.outcomes.named_request.NamedRequest.{NamedRequest}
 use Rattle.litmus_test.specs.declared.test.LitmusTest.{LitmusTest}
 use Rattle.litmus_test.specs.declared.test.Thread.{Thread}
 use Rattle.litmus_threads.specs.Found.{IsOutcomeIn}

@@ -1,14 +1,14 @@
 -- What is written of a run of a litmus test, and how it ends.
 use Rattle.std.specs.Prelude.{◌≡◌, ◌⊎◌, ℕ, ◌<◌, ◌==◌, if◌then◌else◌, All, List, None, count_by}
 use Rattle.std.specs.Prelude.{length}
-use Rattle.litmus_outcomes.specs.Forbid.{is_forbidden}
-use Rattle.litmus_outcomes.specs.Table.{AreRowsOf, IsTableOf, RowView}
+use Rattle.litmus_test.specs.Forbid.{is_forbidden}
+use Rattle.litmus_test.specs.Table.{AreRowsOf, IsTableOf, RowView}
 use Rattle.litmus_test.specs.declared.test.LitmusTest.{LitmusTest}
 use Rattle.litmus_threads.specs.Round.{IsOutcomeOf}
 use Rattle.litmus_threads.specs.declared.rounds.Run.{Run}
 use Rattle.litmus_threads.specs.declared.rounds.Run.TheVariants as runs
-use Rattle.litmus_outcomes.specs.Form.{text_of_outcomes, text_of_stuck}
-use Rattle.litmus_outcomes.specs.declared.form.OutcomeForm.{OutcomeForm}
+use Rattle.litmus_test.specs.Form.{text_of_outcomes, text_of_stuck}
+use Rattle.litmus_test.specs.declared.outcomes.form.OutcomeForm.{OutcomeForm}
 
 -- the exit status where the rounds had these outcomes: 0 where none of them was forbidden
 abbrev pub status_of : LitmusTest → List (List ℕ) → ℕ

@@ -9,8 +9,8 @@ use Rattle.core_thread_system.specs.Core.{CoreView}
 use Rattle.drain.specs.Audited.{IsAudited}
 use Rattle.drain.specs.Receipts.{ports_of}
 use Rattle.drain.specs.declared.report.CounterValue.{CounterValue}
-use Rattle.litmus_outcomes.specs.Form.{text_of_stuck}
-use Rattle.litmus_outcomes.specs.declared.form.OutcomeForm.TheVariants as forms
+use Rattle.litmus_test.specs.Form.{text_of_stuck}
+use Rattle.litmus_test.specs.declared.outcomes.form.OutcomeForm.TheVariants as forms
 use Rattle.litmus_script.specs.Shown.{text_of_trace}
 use Rattle.litmus_test.specs.declared.test.LitmusTest.{LitmusTest}
 use Rattle.litmus_threads.specs.Made.{HaveMadeAll}

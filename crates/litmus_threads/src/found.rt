@@ -2,7 +2,7 @@ ghost use Rattle.std.specs.Prelude.{◌≡◌, ◌++◌, IfOk, MatchOption, OnOk
 ghost use Rattle.litmus_threads.specs.Found.{HasReply, IsOutcomeIn, LacksReply, LacksAReply};
 
 use drain::{Audit, CounterValue};
-use litmus_outcomes::NamedRequest;
+use litmus_test::NamedRequest;
 use receipt_ledger::Receipt;
 use std::alloc::{AllocError, Global};
 

@@ -1,7 +1,7 @@
 ghost use Rattle.std.specs.Prelude.{◌≡◌, [], ◌∷◌, IsSomeAnd, IsTrue, MatchOption};
 ghost use Rattle.core_thread_system.specs.Core.{asked_of};
 ghost use Rattle.core_thread_system.specs.Program.{accesses_of};
-ghost use Rattle.litmus_outcomes.specs.NamedRequest.{requests_in};
+ghost use Rattle.litmus_test.specs.NamedRequest.{requests_in};
 ghost use Rattle.drain.specs.Owned.{HasItsOwn};
 ghost use Rattle.litmus_threads.specs.Made.{AreOwners, HasMadeBelow, HaveMadeAll};
 

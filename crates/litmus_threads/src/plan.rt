@@ -2,8 +2,7 @@ ghost use Rattle.std.specs.Prelude.{◌≡◌, IfOk};
 ghost use Rattle.litmus_threads.specs.Round.{named_requests_of};
 
 use core_thread::Movers;
-use litmus_outcomes::NamedRequest;
-use litmus_test::LitmusTest;
+use litmus_test::{LitmusTest, NamedRequest};
 use std::alloc::{AllocError, Global};
 
 /// What all rounds of a test have in common.

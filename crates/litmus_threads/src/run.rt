@@ -5,9 +5,8 @@ ghost use Rattle.litmus_script.specs.Play.{IsOfRun};
 ghost use Rattle.litmus_threads.specs.Run.{HasStatus, IsEndOf, IsTold};
 
 use super::rounds::{Run, run_test};
-use litmus_outcomes::{OutcomeForm, write_outcomes, write_stuck};
 use litmus_script::TextWriter;
-use litmus_test::{LitmusTest, Progress};
+use litmus_test::{LitmusTest, OutcomeForm, Progress, write_outcomes, write_stuck};
 use litmus_text::TextFault;
 use std::alloc::Global;
 use std::fmt;

@@ -15,8 +15,8 @@ use Rattle.litmus_walk.specs.declared.round.End.TheVariants as ends
 use Rattle.litmus_walk.specs.Walk.{WalkView, IsWalkOf}
 use Rattle.mshr_file.specs.Miss.{Bound}
 use Rattle.slice_core_plan.specs.View.{IsQuiet}
-use Rattle.script_text.specs.Line.{line_of_parts}
-use Rattle.script_text.specs.Settings.{lines_of_settings, text_of_lines}
+use Rattle.litmus_text.specs.Line.{line_of_parts}
+use Rattle.litmus_text.specs.SettingsLines.{lines_of_settings, text_of_lines}
 
 -- a comment that names the step which makes the call, if one does
 abbrev pub text_of_step : Option StepPlace → List ℕ

@@ -1,7 +1,7 @@
 //! The programs of a workload.
 
 use super::people::{People, complain};
-use program_generate::{GenerateFault, Size, Workload, write_workload};
+use program_text::{GenerateFault, Size, Workload, write_workload};
 use std::io::{self, BufWriter, Write};
 
 /// Prints the programs of a workload, and returns the exit status.

@@ -15,8 +15,8 @@ use Rattle.litmus_text.specs.declared.field.Count.TheVariants as counts
 use Rattle.litmus_text.specs.declared.fault.LineFault.TheVariants as line_faults
 use Rattle.litmus_text.specs.declared.fault.TextFault.{TextFault}
 use Rattle.litmus_text.specs.declared.fault.TextFault.TheVariants as text_faults
-use Rattle.script_text.specs.Line.{line_of_parts}
-use Rattle.script_text.specs.Settings.{text_of_lines}
+use Rattle.litmus_text.specs.Line.{line_of_parts}
+use Rattle.litmus_text.specs.SettingsLines.{text_of_lines}
 use Rattle.murphi_trace.specs.declared.rule.Rule.{Rule}
 use Rattle.murphi_trace.specs.declared.rule.Rule.TheVariants as rules
 use Rattle.murphi_trace.specs.Fired.{fired_by, fired_in, parts_around}

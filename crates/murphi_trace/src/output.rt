@@ -3,15 +3,14 @@ ghost use Rattle.std.specs.Prelude.{◌++◌, OnOk, codes};
 ghost use Rattle.std.specs.Fmt.{WritesInCalls};
 ghost use Rattle.std.specs.Io.KnownBytes.{Appends};
 ghost use Rattle.litmus_text.specs.Command.{parts_of};
-ghost use Rattle.script_text.specs.Line.{line_of_parts};
-ghost use Rattle.script_text.specs.Settings.{text_of_lines};
+ghost use Rattle.litmus_text.specs.Line.{line_of_parts};
+ghost use Rattle.litmus_text.specs.SettingsLines.{text_of_lines};
 ghost use Rattle.murphi_trace.specs.Fired.{name_and_cores};
 ghost use Rattle.murphi_trace.specs.Script.{comment_of, exclusive_line, machine_lines};
 
 use super::fired::Fired;
 use litmus_script::TextWriter;
-use litmus_text::Command;
-use script_text::write_command;
+use litmus_text::{Command, write_command};
 use stats_report::write_text;
 use std::fmt;
 use std::io::Write;

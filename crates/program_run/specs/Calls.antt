@@ -5,8 +5,8 @@ use Rattle.address_map.specs.declared.config.Config.{Config}
 use Rattle.litmus_text.specs.Command.{parts_of}
 use Rattle.litmus_text.specs.declared.command.Command.{Command}
 use Rattle.mshr_file.specs.declared.kind.MissKind.{MissKind}
-use Rattle.script_text.specs.Line.{line_of_parts}
-use Rattle.script_text.specs.Settings.{lines_of_settings, text_of_lines}
+use Rattle.litmus_text.specs.Line.{line_of_parts}
+use Rattle.litmus_text.specs.SettingsLines.{lines_of_settings, text_of_lines}
 
 -- the calls that were made, in order, where they are wanted
 pub record CallsView : Type 0 where

@@ -1,8 +1,8 @@
 -- The report as one value of JSON (RFC 8259).
 use Rattle.std.specs.Prelude.{ℕ, ◌==◌, Bool, true, false, not, List, [], ◌++◌, codes, decimal, filter, length, map}
 use Rattle.std.specs.List.{range_with_len}
-use Rattle.json_text.specs.List.{with_commas}
-use Rattle.json_text.specs.Number.{number_of}
+use Rattle.litmus_text.specs.JsonList.{with_commas}
+use Rattle.litmus_text.specs.JsonNumber.{number_of}
 use Rattle.program_run.specs.declared.column.Column.{Column}
 use Rattle.program_run.specs.declared.tally.Counts.{Counts}
 use Rattle.program_run.specs.Column.{columns_of_all, columns_of_core, count_in, key_of, line_columns, pace_columns}

@@ -19,7 +19,7 @@ ghost use Rattle.program_run.specs.Usage.{usage_at};
 use super::column::{Column, columns_of_all, columns_of_core, line_columns, pace_columns};
 use super::tally::{Counts, Tally};
 use super::usage::{Usage, usage_of_all};
-use json_text::{Number, write_comma};
+use litmus_text::{Number, write_comma};
 use program_text::Limits;
 use std::fmt;
 use std::fmt::Write;

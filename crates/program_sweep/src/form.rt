@@ -1,6 +1,6 @@
 //! The text of rows.
 ghost use Rattle.std.specs.Prelude.{◌≡◌, ◌++◌, OnOk, decimal};
-ghost use Rattle.json_text.specs.Number.{number_of};
+ghost use Rattle.litmus_text.specs.JsonNumber.{number_of};
 ghost use Rattle.program_sweep.specs.Cell.{all_cells};
 ghost use Rattle.program_sweep.specs.Form.{
   cell_of,
@@ -22,7 +22,7 @@ use super::cell::{Cell, Value, cells};
 use super::row::Row;
 use address_map::PolicyKind;
 use itoa::Buffer;
-use json_text::is_exact;
+use litmus_text::is_exact;
 use mshr_file::MissKind;
 use std::alloc::AllocError;
 

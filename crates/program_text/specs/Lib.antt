@@ -5,3 +5,4 @@ pub mod Text
 pub mod Judged
 pub mod Fault
 pub mod Reading
+pub mod Workload

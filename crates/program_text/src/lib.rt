@@ -10,6 +10,7 @@ pub use programs::{
     Access, CoreProgram, Limits, MOST_ACCESSES, MOST_DEPTH, MOST_OUTSTANDING, MOST_PACE, Programs,
     Step,
 };
+pub use workloads::{GenerateFault, Size, Workload, write_workload};
 
 mod body;
 mod judge;
@@ -19,3 +20,4 @@ mod programs;
 mod range;
 mod reader;
 mod repeat;
+mod workloads;

@@ -27,12 +27,12 @@ use Rattle.slice_queues_message.specs.declared.message.ForwardedMessage.TheVaria
 use Rattle.slice_queues_message.specs.declared.message.Message.{Message}
 use Rattle.slice_queues_message.specs.declared.message.Message.TheVariants as messages
 use Rattle.slice_queues_message.specs.declared.message.RequestMessage.TheVariants as request_messages
-use Rattle.step_text.specs.declared.case.Case.{Case}
-use Rattle.step_text.specs.declared.case.Event.{Event}
-use Rattle.step_text.specs.declared.case.Event.TheVariants as events
-use Rattle.step_text.specs.declared.case.Who.{Who}
-use Rattle.step_text.specs.declared.case.Who.TheVariants as whos
-use Rattle.step_text.specs.declared.delivery.ExplainedDelivery.{ExplainedDelivery}
+use Rattle.slice_text.specs.declared.step.case.Case.{Case}
+use Rattle.slice_text.specs.declared.step.case.Event.{Event}
+use Rattle.slice_text.specs.declared.step.case.Event.TheVariants as events
+use Rattle.slice_text.specs.declared.step.case.Who.{Who}
+use Rattle.slice_text.specs.declared.step.case.Who.TheVariants as whos
+use Rattle.slice_text.specs.declared.step.delivery.ExplainedDelivery.{ExplainedDelivery}
 
 -- ---- the case
 

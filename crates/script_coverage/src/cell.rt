@@ -10,7 +10,7 @@ use slice_answer::{Evicted, Stall};
 use slice_core_cache::AccessKind;
 use slice_core_plan::{Decision, Plan, Transition};
 use slice_queues_message::{DataMessage, ForwardedMessage, Message, RequestMessage};
-use step_text::{Case, Event, Who};
+use slice_text::{Case, Event, Who};
 
 /// The cell of a step, if it met one.
 pub fn cell_of(step: &Step) -> Option<Cell>

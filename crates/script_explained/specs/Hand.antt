@@ -2,7 +2,7 @@
 use Rattle.std.specs.Prelude.{List, ℕ, ◌++◌, codes, decimal, Option, Some, None}
 use Rattle.address_map.specs.declared.address.CoreId.{CoreId}
 use Rattle.slice_log.specs.declared.entry.Numbered.{Numbered}
-use Rattle.step_text.specs.Performed.{text_of_performed}
+use Rattle.slice_text.specs.Performed.{text_of_performed}
 
 abbrev pub told_of_hand : CoreId → Option Numbered → List ℕ
 told_of_hand core None = codes "core " ++ decimal core.0 ++ codes ": no reply waits"

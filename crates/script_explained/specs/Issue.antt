@@ -20,11 +20,11 @@ use Rattle.slice_core_plan.specs.Decision.{decision_of}
 use Rattle.slice_core_plan.specs.View.{View}
 use Rattle.slice_core_steps.specs.declared.core_lines.CoreLines.TheVariants as core_lines
 use Rattle.slice_queues_message.specs.declared.channel.Pick.TheVariants as picks
-use Rattle.step_text.specs.Issue.{event_of, text_of_eviction, text_of_issue}
-use Rattle.step_text.specs.declared.case.Event.TheVariants as events
-use Rattle.step_text.specs.declared.case.Who.TheVariants as whos
-use Rattle.step_text.specs.declared.issue.Eviction.{Eviction}
-use Rattle.step_text.specs.declared.issue.Issue.{Issue}
+use Rattle.slice_text.specs.Issue.{event_of, text_of_eviction, text_of_issue}
+use Rattle.slice_text.specs.declared.step.case.Event.TheVariants as events
+use Rattle.slice_text.specs.declared.step.case.Who.TheVariants as whos
+use Rattle.slice_text.specs.declared.step.issue.Eviction.{Eviction}
+use Rattle.slice_text.specs.declared.step.issue.Issue.{Issue}
 
 -- a request to the slice with this number, as it is decided
 abbrev pub issue_at : ℕ → View → CoreId → Request → Issue

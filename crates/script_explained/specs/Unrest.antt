@@ -7,7 +7,7 @@ use Rattle.litmus_text.specs.Command.{parts_of}
 use Rattle.litmus_text.specs.declared.command.Command.TheVariants as commands
 use Rattle.script_explained.specs.declared.unrest.Unrest.{Unrest}
 use Rattle.script_explained.specs.declared.unrest.Unrest.TheVariants as unrests
-use Rattle.script_text.specs.Line.{text_of_parts}
+use Rattle.litmus_text.specs.Line.{text_of_parts}
 use Rattle.slice_core_cache.specs.CoreCache.{tag_at}
 use Rattle.slice_core_cache.specs.Tags.{is_performed}
 use Rattle.slice_core_plan.specs.View.{View, cache_at}

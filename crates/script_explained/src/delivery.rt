@@ -16,10 +16,10 @@ use super::look;
 use super::step::DeliveryStep;
 use address_map::CoreId;
 use mshr_file::EitherFile;
-use script_text::Delivery;
+use litmus_text::Delivery;
 use slice_core::{Class, Delivered, DeliveredNext, Pick, Plan, SliceState};
 use std::fmt;
-use step_text::{Case, Done, Event, ExplainedDelivery, Who};
+use slice_text::{Case, Done, Event, ExplainedDelivery, Who};
 
 /// Delivers the message in front of a channel of the slice with this number.
 pub(crate) fn deliver(state: &mut SliceState<EitherFile>, slice: usize, pick: Pick) -> DeliveryStep

@@ -5,11 +5,10 @@ ghost use Rattle.std.specs.Io.KnownBytes.{Appends};
 ghost use Rattle.litmus_script.specs.Play.{IsOfRun};
 ghost use Rattle.litmus_text.specs.Command.{parts_of};
 ghost use Rattle.litmus_text.specs.declared.command.Command.TheVariants as commands;
-ghost use Rattle.script_text.specs.Line.{text_of_parts};
+ghost use Rattle.litmus_text.specs.Line.{text_of_parts};
 
 use litmus_script::TextWriter;
-use litmus_text::TextFault;
-use script_text::Delivery;
+use litmus_text::{Delivery, TextFault};
 use slice_core::Pick;
 use std::alloc::Global;
 use std::fmt;

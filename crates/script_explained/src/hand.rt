@@ -5,7 +5,7 @@ ghost use Rattle.script_explained.specs.Hand.{told_of_hand};
 
 use super::step::HandStep;
 use std::fmt;
-use step_text::Performed;
+use slice_text::Performed;
 
 /// Writes the reply that was handed out, with the access that it answers.
 pub(crate) fn write_hand<W: fmt::Write>(step: HandStep, out: &mut W) -> fmt::Result

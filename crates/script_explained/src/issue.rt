@@ -7,7 +7,7 @@ ghost use Rattle.script_explained.specs.Named.{text_of_copies};
 ghost use Rattle.script_explained.specs.Step.{IsAccess, IsEviction};
 ghost use Rattle.slice_answer.specs.Text.{text_of_evicted};
 ghost use Rattle.slice_core.specs.Facts.{IsSameSlice};
-ghost use Rattle.step_text.specs.Issue.{text_of_eviction, text_of_issue};
+ghost use Rattle.slice_text.specs.Issue.{text_of_eviction, text_of_issue};
 
 use super::look;
 use super::named::{Named, named_lines, write_copies};
@@ -20,7 +20,7 @@ use slice_core::{CoreLines, Evicted, Pick, SliceState};
 use std::alloc::Global;
 use std::fmt;
 use std::io::Write;
-use step_text::{Case, Event, Eviction, Issue, Who};
+use slice_text::{Case, Event, Eviction, Issue, Who};
 
 /// Asks for an access of a core in the slice with this number.
 pub(crate) fn issue(

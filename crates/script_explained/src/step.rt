@@ -6,7 +6,7 @@ use address_map::{CoreId, LineAddr, SliceId, WordAddr};
 use litmus_script::{Issued, Pumped};
 use litmus_text::{Command, Look};
 use slice_core::{Delivered, Numbered, Pick};
-use step_text::{Eviction, ExplainedDelivery, Issue};
+use slice_text::{Eviction, ExplainedDelivery, Issue};
 
 /// A command that was played: what it names, what was decided of it, and what it came to.
 #[derive(Drop)]

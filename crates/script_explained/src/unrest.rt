@@ -7,7 +7,7 @@ ghost use Rattle.script_explained.specs.Unrest.{first_unrest, replies_in, replie
 use super::step::WordStep;
 use address_map::{Checked, CoreId, WordAddr};
 use mshr_file::EitherFile;
-use script_text::Delivery;
+use litmus_text::Delivery;
 use slice_core::{Pick, SliceState, TagState};
 use std::fmt;
 

@@ -8,7 +8,7 @@ use Rattle.address_map.specs.declared.address.Local.{Local}
 use Rattle.address_map.specs.Locator.{local_at}
 use Rattle.cache_table.specs.declared.state.CopyState.{CopyState}
 use Rattle.directory_table.specs.declared.state.DirState.{DirState}
-use Rattle.json_text.specs.List.{with_commas}
+use Rattle.litmus_text.specs.JsonList.{with_commas}
 use Rattle.script_json.specs.Held.{copies_of, has_message, is_moving, list_of_copies}
 use Rattle.slice_core.specs.Facts.{AreWaitingAt, ShowsLine}
 use Rattle.slice_core_cache.specs.Copy.{is_gone}

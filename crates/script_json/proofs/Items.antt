@@ -4,7 +4,7 @@ use Rattle.std.specs.Io.KnownBytes.{Appends}
 use Rattle.std.specs.List.{flat_map}
 use Rattle.std.proofs.KnownBytes.{Appends-nil, Appends-trans}
 use Rattle.std.proofs.lemmas.List.{at_drop_all, at_drop_more}
-use Rattle.json_text.specs.List.{before_text, with_commas_from}
+use Rattle.litmus_text.specs.JsonList.{before_text, with_commas_from}
 
 -- an item of a list, and then those after it
 pub item_written : {X : Type 0} (text : X → List ℕ) (first : Bool) (x : X) (rest : List X) (a b c d : Option (List ℕ))

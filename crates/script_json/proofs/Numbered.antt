@@ -3,8 +3,8 @@ use Rattle.std.proofs.Common.{◌≡◌, ℕ, ◌+◌, ◌<◌, ◌≤◌, ◌�
 use Rattle.std.specs.Fmt.{WritesInCalls}
 use Rattle.std.specs.List.{flat_map, range_with_len}
 use Rattle.std.proofs.lemmas.List.FromFn.{length-range_with_len}
-use Rattle.json_text.specs.List.{before_text, with_commas_from}
-use Rattle.json_text.proofs.Commas.{at_range, last_text, next_text, skip_text}
+use Rattle.litmus_text.specs.JsonList.{before_text, with_commas_from}
+use Rattle.litmus_text.proofs.Commas.{at_range, last_text, next_text, skip_text}
 
 module _ {W : Type 0} (took : W → List ℕ → W → Type 0) (texts : ℕ → List (List ℕ)) (first : Bool) (n i : ℕ) where
   abbrev pub items : Bool → List ℕ → List ℕ

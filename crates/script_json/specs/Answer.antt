@@ -1,6 +1,6 @@
 -- What became of a command, as members of an object: the words of its answer, and the same under names.
 use Rattle.std.specs.Prelude.{ℕ, List, ◌++◌, codes, decimal, Option, Some, None}
-use Rattle.json_text.specs.Number.{number_of}
+use Rattle.litmus_text.specs.JsonNumber.{number_of}
 use Rattle.litmus_script.specs.declared.answers.Issued.{Issued}
 use Rattle.litmus_script.specs.declared.answers.Issued.TheVariants as issued_kinds
 use Rattle.litmus_script.specs.declared.answers.Pumped.{Pumped}

@@ -2,7 +2,7 @@
 use Rattle.std.specs.Prelude.{ℕ, List, ◌++◌, codes, decimal}
 use Rattle.address_map.specs.declared.request.Op.{Op}
 use Rattle.address_map.specs.declared.request.Op.TheVariants as ops
-use Rattle.json_text.specs.Number.{number_of}
+use Rattle.litmus_text.specs.JsonNumber.{number_of}
 use Rattle.litmus_text.specs.declared.command.Command.{Command}
 use Rattle.litmus_text.specs.declared.command.Command.TheVariants as commands
 use Rattle.litmus_text.specs.Look.{name_of_look, subject_of}

@@ -7,7 +7,7 @@ use Rattle.address_map.specs.declared.address.CoreId.{CoreId}
 use Rattle.address_map.specs.declared.address.LineAddr.{LineAddr}
 use Rattle.address_map.specs.declared.address.Local.{Local}
 use Rattle.address_map.specs.declared.config.Config.{Config}
-use Rattle.json_text.specs.List.{with_commas, with_commas_from}
+use Rattle.litmus_text.specs.JsonList.{with_commas, with_commas_from}
 use Rattle.script_json.specs.declared.held.Choice.{Choice}
 use Rattle.script_json.specs.declared.held.Choice.TheVariants as choices
 use Rattle.slice_core.specs.Facts.{copy_at}

@@ -2,7 +2,7 @@
 use Rattle.std.specs.Prelude.{ℕ, ◌+◌, ◌*◌, ◌/◌, ◌%◌, List, [], ◌∷◌, ◌++◌, codes, decimal, slice_get, Option, Some, None}
 use Rattle.std.specs.List.{flat_map, range_with_len}
 use Rattle.address_map.specs.declared.address.LineAddr.{LineAddr}
-use Rattle.json_text.specs.List.{with_commas}
+use Rattle.litmus_text.specs.JsonList.{with_commas}
 use Rattle.slice_core_cache.specs.CoreCache.{tag_at}
 use Rattle.slice_core_cache.specs.declared.tags.TagState.{TagState}
 use Rattle.slice_core_cache.specs.declared.tags.TagState.TheVariants as tag_states

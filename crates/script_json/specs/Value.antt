@@ -1,6 +1,6 @@
 -- A command and its answer as one value of JSON.
 use Rattle.std.specs.Prelude.{ℕ, List, [], ◌++◌, codes, decimal, map, Option, Some, None}
-use Rattle.json_text.specs.List.{with_commas}
+use Rattle.litmus_text.specs.JsonList.{with_commas}
 use Rattle.litmus_text.specs.Text.{words_of_line}
 use Rattle.litmus_text.specs.declared.command.Command.{Command}
 use Rattle.script_json.specs.Call.{text_of_call}

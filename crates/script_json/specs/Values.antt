@@ -4,7 +4,7 @@ use Rattle.std.specs.Io.KnownBytes.{Appends}
 use Rattle.std.specs.Str.Lines.{lines}
 use Rattle.address_map.specs.Place.{line_of as line_of_word}
 use Rattle.address_map.specs.declared.config.Config.{Config}
-use Rattle.json_text.specs.List.{with_commas}
+use Rattle.litmus_text.specs.JsonList.{with_commas}
 use Rattle.litmus_script.specs.Machine.{HasAt}
 use Rattle.litmus_script.specs.Script.{Playing}
 use Rattle.litmus_text.specs.declared.command.Command.{Command}
@@ -29,7 +29,7 @@ use Rattle.script_json.specs.Value.{item_of, items_of_lines, object_of}
 use Rattle.script_json.specs.declared.held.Choice.TheVariants as choices
 use Rattle.slice_core_plan.specs.Calls.{PartsView}
 use Rattle.slice_core_plan.specs.View.{View}
-use Rattle.step_text.specs.Issue.{text_of_eviction, text_of_issue}
+use Rattle.slice_text.specs.Issue.{text_of_eviction, text_of_issue}
 
 -- ---- a step
 

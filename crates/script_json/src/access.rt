@@ -2,7 +2,7 @@
 ghost use Rattle.std.specs.Prelude.{◌≡◌};
 ghost use Rattle.script_json.specs.Answer.{text_of_reason, text_of_refused, text_of_stall};
 
-use json_text::Number;
+use litmus_text::Number;
 use litmus_script::Issued;
 use slice_answer::{Refused, Stall};
 use std::fmt;

@@ -4,7 +4,7 @@ ghost use Rattle.script_json.specs.Answer.{members_of_delivered, members_of_evic
 
 use super::access::Access;
 use address_map::{CoreId, LineAddr};
-use json_text::Number;
+use litmus_text::Number;
 use litmus_script::{Issued, Pumped};
 use slice_answer::{Cell, Delivered, Evicted};
 use slice_log::Numbered;

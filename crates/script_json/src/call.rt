@@ -5,9 +5,8 @@ ghost use Rattle.std.specs.Io.KnownBytes.{Appends};
 ghost use Rattle.script_json.specs.Call.{text_of_call};
 
 use address_map::{CoreId, LineAddr, Op, SliceId, WordAddr};
-use json_text::Number;
 use litmus_script::TextWriter;
-use litmus_text::{Command, Look, Subject, TextFault};
+use litmus_text::{Command, Look, Number, Subject, TextFault};
 use slice_queues_message::Channel;
 use std::fmt;
 use std::io::Write;

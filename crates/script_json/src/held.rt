@@ -10,7 +10,7 @@ ghost use Rattle.slice_text.specs.Shown.{is_idle};
 
 use address_map::{CoreId, LineAddr};
 use arrayvec::ArrayVec;
-use json_text::write_comma;
+use litmus_text::write_comma;
 use litmus_script::Machine;
 use mshr_file::EitherFile;
 use slice_core::{CopyState, DirState, LineView, LineWaiting, SliceState};

@@ -4,7 +4,7 @@ ghost use Rattle.std.specs.Fmt.{WritesInCalls};
 ghost use Rattle.std.specs.Io.KnownBytes.{Appends};
 ghost use Rattle.std.specs.Option.{option_map};
 ghost use Rattle.std.specs.Str.Lines.{lines};
-ghost use Rattle.json_text.specs.List.{with_commas};
+ghost use Rattle.litmus_text.specs.JsonList.{with_commas};
 ghost use Rattle.litmus_script.specs.Play.{IsOfRun};
 ghost use Rattle.litmus_text.specs.Text.{words_of_line};
 ghost use Rattle.script_json.specs.Answer.{members_of};

@@ -1,7 +1,7 @@
 //! Slices as data: what `show` tells of each besides its lines.
 ghost use Rattle.std.specs.Prelude.{◌≡◌, ◌*◌, ◌/◌, ◌<◌, ◌≤◌, OnOk, decimal, length};
 ghost use Rattle.std.specs.Fmt.{WritesInCalls};
-ghost use Rattle.json_text.specs.List.{with_commas};
+ghost use Rattle.litmus_text.specs.JsonList.{with_commas};
 ghost use Rattle.script_json.specs.Slices.{list_of_replies, list_of_ring, text_of_number, text_of_reply, text_of_slice};
 ghost use Rattle.script_json.specs.Slices.{texts_of_slices};
 ghost use Rattle.slice_core_cache.specs.CoreCache.{tag_at};
@@ -9,7 +9,7 @@ ghost use Rattle.slice_core_plan.specs.View.{cache_at};
 ghost use Rattle.slice_text.specs.Shown.{HaveCores};
 
 use address_map::{Checked, CoreId, LineAddr};
-use json_text::write_comma;
+use litmus_text::write_comma;
 use mshr_file::EitherFile;
 use slice_core::{SliceState, TagState};
 use std::fmt;

@@ -2,7 +2,7 @@
 ghost use Rattle.std.specs.Prelude.{◌≡◌, OnOk, map};
 ghost use Rattle.std.specs.Io.KnownBytes.{Appends};
 ghost use Rattle.std.specs.List.{flat_map, list_all};
-ghost use Rattle.json_text.specs.List.{before_text, with_commas};
+ghost use Rattle.litmus_text.specs.JsonList.{before_text, with_commas};
 ghost use Rattle.litmus_text.specs.Text.{words_of_line};
 ghost use Rattle.script_json.specs.Text.{escaped, is_digit, is_exact, is_number, quoted, value_of};
 

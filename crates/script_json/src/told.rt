@@ -10,7 +10,7 @@ use litmus_script::Issued;
 use script_explained::{HandStep, Unrest};
 use slice_answer::Evicted;
 use std::alloc::{AllocError, Global};
-use step_text::{ExplainedDelivery, Performed};
+use slice_text::{ExplainedDelivery, Performed};
 
 /// What happened at a delivery.
 pub(crate) fn of_delivery(

@@ -23,7 +23,7 @@ use Rattle.slice_core_plan.specs.Calls.{PartsView, next_pick}
 use Rattle.slice_core_plan.specs.declared.transition.Transition.{Transition}
 use Rattle.slice_queues_message.specs.declared.channel.Class.TheVariants as classes
 use Rattle.slice_queues_message.specs.declared.channel.Pick.{Pick}
-use Rattle.step_text.specs.declared.delivery.ExplainedDelivery.{ExplainedDelivery}
+use Rattle.slice_text.specs.declared.step.delivery.ExplainedDelivery.{ExplainedDelivery}
 
 -- ---- what a step says
 

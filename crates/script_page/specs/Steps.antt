@@ -10,7 +10,7 @@ use Rattle.script_explained.specs.declared.step.DeliveryStep.{DeliveryStep}
 use Rattle.script_explained.specs.declared.step.Step.{Step}
 use Rattle.script_explained.specs.declared.step.Step.TheVariants as steps
 use Rattle.script_page.specs.Step.{WritesStep}
-use Rattle.script_text.specs.Line.{text_of_parts}
+use Rattle.litmus_text.specs.Line.{text_of_parts}
 use Rattle.slice_core_plan.specs.Calls.{PartsView}
 
 -- The step of a command is written: its answer told with what happened, and the slices as they are then. Its place in

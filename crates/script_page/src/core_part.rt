@@ -8,9 +8,8 @@ ghost use Rattle.script_page.specs.Core.{text_of_reply, text_with, victim_of};
 
 use super::scope::Scope;
 use address_map::{CoreId, LineAddr};
-use json_text::write_comma;
 use litmus_script::{TextWriter, written};
-use litmus_text::TextFault;
+use litmus_text::{TextFault, write_comma};
 use mshr_file::EitherFile;
 use slice_core::{CoreLines, SliceState, TagState};
 use slice_json::{write_copy_in, write_lines};

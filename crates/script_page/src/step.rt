@@ -20,7 +20,7 @@ use stats_report::write_text;
 use std::alloc::Global;
 use std::fmt;
 use std::io::Write;
-use step_text::ExplainedDelivery;
+use slice_text::ExplainedDelivery;
 
 /// A step as a page tells it: its place in the script, the text of its command, and its answer with what happened.
 #[derive(Clone, Copy)]

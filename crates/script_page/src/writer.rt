@@ -5,7 +5,7 @@ ghost use Rattle.litmus_text.specs.Command.{IsInRange, parts_of};
 ghost use Rattle.litmus_text.specs.declared.command.Command.TheVariants as commands;
 ghost use Rattle.script_explained.specs.Explains.{Explains, ExplainsNext};
 ghost use Rattle.script_explained.specs.Step.{command_of};
-ghost use Rattle.script_text.specs.Line.{text_of_parts};
+ghost use Rattle.litmus_text.specs.Line.{text_of_parts};
 
 use super::step::{PageStep, write_step};
 use litmus_script::Machine;

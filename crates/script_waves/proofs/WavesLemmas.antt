@@ -17,7 +17,7 @@ use Rattle.litmus_text.specs.Command.{parts_of}
 use Rattle.litmus_text.specs.declared.command.Command.{Command}
 use Rattle.litmus_text.specs.declared.command.Command.TheVariants as commands
 use Rattle.litmus_text.specs.declared.fault.TextFault.{TextFault}
-use Rattle.script_text.specs.Line.{text_of_parts}
+use Rattle.litmus_text.specs.Line.{text_of_parts}
 use Rattle.script_waves.specs.Named.{Names, line_named}
 use Rattle.script_waves.specs.Values.{name_of_channel, names_of, text_behind, text_of_entry, text_of_mail}
 use Rattle.script_waves.specs.Values.{text_of_place, text_of_states, text_of_total, text_of_waiting, total_of, waiting_of}

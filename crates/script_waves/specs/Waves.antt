@@ -21,7 +21,7 @@ use Rattle.script_waves.specs.InUse.{text_of_uses}
 use Rattle.script_waves.specs.Named.{Names, line_named}
 use Rattle.script_waves.specs.Signals.{text_of_header}
 use Rattle.script_waves.specs.Values.{text_of_command, text_of_lines, text_of_time}
-use Rattle.script_text.specs.Line.{text_of_parts}
+use Rattle.litmus_text.specs.Line.{text_of_parts}
 use Rattle.slice_answer.specs.declared.answer.Delivery.TheVariants as deliveries
 use Rattle.slice_answer.specs.declared.answer.Delivery.{Delivery}
 use Rattle.slice_core_plan.specs.Calls.{PartsView}

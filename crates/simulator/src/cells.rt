@@ -10,7 +10,7 @@ use script_coverage::{
     Cell, Outcome, TableEvent, TableState, cell_at, outcome_of_decision, outcome_of_plan,
 };
 use slice_core::{CopyState, DirState, Pick, SliceState};
-use step_text::{Case, Event, Who};
+use slice_text::{Case, Event, Who};
 
 /// .. that an access would meet.
 pub(crate) fn of_issue(

@@ -3,7 +3,7 @@ use Rattle.std.proofs.Common.{◌≡◌, ℕ, Bool, false, List, [], ◌∷◌, 
 use Rattle.std.specs.Fmt.{WritesInCalls}
 use Rattle.std.specs.List.{slice_get}
 use Rattle.std.proofs.Output.{writes_in_calls_append}
-use Rattle.json_text.specs.List.{before_text, with_commas_from}
+use Rattle.litmus_text.specs.JsonList.{before_text, with_commas_from}
 
 -- the first of a list that is gone through from its front, and then those after it
 pub first_text : {W X : Type 0} (took : W → List ℕ → W → Type 0) (text : X → List ℕ) (first : Bool) (left rest : List X)

@@ -2,7 +2,7 @@
 use Rattle.std.specs.Prelude.{ℕ, List, ◌++◌, codes, decimal, drop, map}
 use Rattle.address_map.specs.declared.request.Op.{Op}
 use Rattle.address_map.specs.declared.request.Op.TheVariants as ops
-use Rattle.json_text.specs.List.{with_commas}
+use Rattle.litmus_text.specs.JsonList.{with_commas}
 use Rattle.slice_log.specs.declared.entry.Entry.{Entry}
 use Rattle.target_list.specs.declared.target.Target.{Target}
 

@@ -5,8 +5,8 @@ use Rattle.std.specs.List.{flat_map}
 use Rattle.address_map.specs.CoreSet.{members}
 use Rattle.address_map.specs.declared.address.LineAddr.{LineAddr}
 use Rattle.address_map.specs.declared.block.Block.{Block}
-use Rattle.json_text.specs.List.{with_commas}
-use Rattle.step_text.specs.Cores.{text_of_cores}
+use Rattle.litmus_text.specs.JsonList.{with_commas}
+use Rattle.slice_text.specs.Cores.{text_of_cores}
 
 -- a number below 16 as one digit
 abbrev pub hex_digit : ℕ → ℕ

@@ -3,10 +3,10 @@ ghost use Rattle.std.specs.Prelude.{OnOk, drop, map};
 ghost use Rattle.std.specs.Fmt.{WritesInCalls};
 ghost use Rattle.slice_json.specs.Access.{list_of_entries, list_of_targets, text_of_entry, text_of_log};
 ghost use Rattle.slice_json.specs.Access.{text_of_place, text_of_target};
-ghost use Rattle.json_text.specs.List.{with_commas};
+ghost use Rattle.litmus_text.specs.JsonList.{with_commas};
 
 use address_map::{CoreId, Offset, Op, WordAddr};
-use json_text::write_comma;
+use litmus_text::write_comma;
 use mshr_file::Target;
 use slice_core::Entry;
 use std::fmt;

@@ -3,14 +3,14 @@ ghost use Rattle.std.specs.Prelude.{◌≡◌, ◌<◌, ◌∷◌, [], IsTrue, O
 ghost use Rattle.std.specs.Fmt.{WritesInCalls};
 ghost use Rattle.std.specs.List.{flat_map};
 ghost use Rattle.slice_json.specs.Json.{hex_digit, is_plain, json_of, list_of_lines, list_of_values, text_as};
-ghost use Rattle.json_text.specs.List.{with_commas};
+ghost use Rattle.litmus_text.specs.JsonList.{with_commas};
 ghost use Rattle.slice_json.specs.Json.{text_of_block, text_of_byte, text_of_line_number, text_of_value};
 
 use address_map::{Block, CoreSet, LineAddr};
-use json_text::write_comma;
+use litmus_text::write_comma;
 use std::fmt;
 use std::fmt::Write;
-use step_text::Cores;
+use slice_text::Cores;
 
 /// Writes bytes as a string of JSON, in which no tag of HTML begins. A byte that isn't ASCII stands for the character
 /// of its number.

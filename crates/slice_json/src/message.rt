@@ -1,13 +1,13 @@
 //! The messages of a line as data: the one in front of each channel.
 ghost use Rattle.std.specs.Prelude.{◌≡◌, OnOk, map};
 ghost use Rattle.std.specs.Fmt.{WritesInCalls};
-ghost use Rattle.json_text.specs.List.{with_commas};
+ghost use Rattle.litmus_text.specs.JsonList.{with_commas};
 ghost use Rattle.slice_json.specs.Message.{block_in, list_of_messages, text_at, text_of_begin, text_of_end, text_of_fate};
 ghost use Rattle.slice_json.specs.Message.{name_of, text_of_message};
 
 use super::json::write_block;
 use address_map::{Block, CoreId, LineAddr};
-use json_text::write_comma;
+use litmus_text::write_comma;
 use mshr_file::MissFile;
 use slice_core::{
     DataMessage, ForwardedMessage, LineWaiting, Message, Plan, RequestMessage, SliceState,

@@ -1,2 +1,9 @@
 pub mod Line
 pub mod Shown
+pub mod Case
+pub mod Cores
+pub mod Effects
+pub mod Delivery
+pub mod Issue
+pub mod Message
+pub mod Performed

@@ -23,7 +23,7 @@ use Rattle.slice_core_cache.specs.declared.tags.TagState.TheVariants as tag_stat
 use Rattle.slice_core_plan.specs.Parts.{PartsView, ring_lines}
 use Rattle.slice_core_plan.specs.View.{View, entry_at, cache_at}
 use Rattle.slice_text.specs.Line.{text_of_state, text_of_words}
-use Rattle.step_text.specs.Performed.{text_of_op}
+use Rattle.slice_text.specs.Performed.{text_of_op}
 use Rattle.target_list.specs.declared.target.Target.{Target}
 
 -- ---- a core's copy of a line, and what waits for it

@@ -6,12 +6,12 @@ ghost use Rattle.slice_text.specs.Shown.{text_of_acks, text_of_copy, text_of_cor
 ghost use Rattle.slice_text.specs.Shown.{text_of_held, text_of_name, text_of_order, text_of_target, text_of_targets};
 
 use super::line::write_words;
+use crate::Asked;
 use address_map::{CoreId, LineAddr, WordAddr};
 use mshr_file::{MissFile, Target};
 use slice_core::{CacheCopy, CopyState, SliceState};
 use std::fmt;
 use std::fmt::Write;
-use step_text::Asked;
 
 /// Writes what each core has of a line.
 pub(crate) fn write_cores<F: MissFile, W: Write>(

@@ -8,8 +8,13 @@
 
 pub use line::write_line;
 pub use shown::write_slices;
+pub use step::{
+    Asked, Case, Cores, Done, Event, Eviction, ExplainedDelivery, Issue, MessageName, Performed,
+    Who,
+};
 
 mod copy;
 mod line;
 mod reply;
 mod shown;
+mod step;

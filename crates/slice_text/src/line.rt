@@ -2,13 +2,13 @@ ghost use Rattle.std.specs.Prelude.{◌++◌, OnOk, codes};
 ghost use Rattle.std.specs.Fmt.{WritesInCalls};
 ghost use Rattle.slice_text.specs.Line.{text_of_entry, text_of_line, text_of_owner, text_of_states, text_of_words};
 
+use crate::Cores;
 use address_map::{CoreId, CoreSet, LineAddr};
 use cache_table::CopyState;
 use directory_table::DirState;
 use slice_core::LineView;
 use std::fmt;
 use std::fmt::Write;
-use step_text::Cores;
 
 /// Writes what a slice has of a line, as one line of text.
 pub fn write_line<W: Write>(line: LineAddr, view: &LineView, out: &mut W) -> fmt::Result

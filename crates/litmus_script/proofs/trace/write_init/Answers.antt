@@ -1,6 +1,6 @@
 use Rattle.std.proofs.Common.{refl, map}
 use Rattle.trace_check.specs.declared.trace_line.TraceLine.TheVariants as trace_lines
-use Rattle.script_text.proofs.Pieces.{next_piece}
+use Rattle.litmus_text.proofs.Pieces.{next_piece}
 use Rattle.litmus_script.specs.Shown.{text_of_lines}
 use Rattle.litmus_script.proofs.trace.write_init.Goals as goal
 

@@ -1,5 +1,5 @@
 use Rattle.std.proofs.Common.{◌+◌, ◌∷◌, ◌∙◌, ap, drop, sym}
-use Rattle.script_text.proofs.Pieces.{next_piece}
+use Rattle.litmus_text.proofs.Pieces.{next_piece}
 use Rattle.litmus_script.specs.Waiting.{in_flight, lines_of}
 use Rattle.litmus_script.proofs.WaitingLemmas.{lines_of_slices}
 use Rattle.slice_core_plan.specs.Calls.{PartsView}

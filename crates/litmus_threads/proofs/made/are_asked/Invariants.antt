@@ -1,7 +1,7 @@
 use Rattle.std.proofs.Common.{◌≡◌, ◌≤◌, length, take}
 use Rattle.core_thread_system.specs.Core.{asked_of}
 use Rattle.core_thread_system.specs.Program.{accesses_of}
-use Rattle.litmus_outcomes.specs.NamedRequest.{requests_in}
+use Rattle.litmus_test.specs.NamedRequest.{requests_in}
 use Rattle.litmus_threads.proofs.made.are_asked.Given as goal
 
 abbrev pub invariant-loop-step : goal.invariant-loop-step

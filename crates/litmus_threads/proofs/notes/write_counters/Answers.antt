@@ -1,6 +1,6 @@
 use Rattle.std.proofs.Common.{◌+◌, drop, sym, ◌∙◌}
 use Rattle.std.proofs.lemmas.List.{at_drop_more}
-use Rattle.script_text.proofs.Pieces.{next_piece}
+use Rattle.litmus_text.proofs.Pieces.{next_piece}
 use Rattle.litmus_threads.proofs.Lines.{counters-more, counters-same}
 use Rattle.litmus_threads.specs.Trace.{text_of_counters}
 use Rattle.litmus_threads.proofs.notes.write_counters.Goals as goal

@@ -1,5 +1,5 @@
 use Rattle.std.proofs.Common.{refl}
-use Rattle.script_text.proofs.Pieces.{next_piece}
+use Rattle.litmus_text.proofs.Pieces.{next_piece}
 use Rattle.litmus_walk.specs.Script.{text_of_calls}
 use Rattle.litmus_walk.proofs.script.write_calls.Goals as goal
 

@@ -1,12 +1,12 @@
 use Rattle.std.proofs.Common.{◌++◌, ◌+◌, ℕ, Bool, List, ap, arith, drop, false, length, refl}
 use Rattle.std.specs.List.{range_with_len}
 use Rattle.std.proofs.lemmas.List.FromFn.{length-range_with_len}
-use Rattle.script_text.proofs.Pieces.{last_piece}
-use Rattle.json_text.specs.List.{before_text, with_commas_from}
+use Rattle.litmus_text.proofs.Pieces.{last_piece}
+use Rattle.litmus_text.specs.JsonList.{before_text, with_commas_from}
 use Rattle.program_run.specs.Json.{core_object, objects_of_cores}
 use Rattle.program_run.specs.Tally.{counts_at}
 use Rattle.program_run.specs.Usage.{usage_at}
-use Rattle.json_text.proofs.Commas.{at_range, next_text}
+use Rattle.litmus_text.proofs.Commas.{at_range, next_text}
 use Rattle.program_run.proofs.json.write_cores.Goals as goal
 
 pub loop-core-preserved : goal.loop-core-preserved

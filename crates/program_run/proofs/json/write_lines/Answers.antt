@@ -4,12 +4,12 @@ use Rattle.std.specs.Prelude.{filter}
 use Rattle.std.specs.List.{range_with_len}
 use Rattle.std.proofs.lemmas.Bool.{ne_eqb}
 use Rattle.std.proofs.lemmas.List.FromFn.{length-range_with_len}
-use Rattle.script_text.proofs.Pieces.{last_piece}
+use Rattle.litmus_text.proofs.Pieces.{last_piece}
 use Rattle.program_run.specs.declared.tally.Counts.{Counts}
-use Rattle.json_text.specs.List.{with_commas_from}
+use Rattle.litmus_text.specs.JsonList.{with_commas_from}
 use Rattle.program_run.specs.Json.{is_asked, line_object, objects_of_lines}
 use Rattle.program_run.specs.Tally.{counts_at, requests_of}
-use Rattle.json_text.proofs.Commas.{at_range, next_text, skip_text}
+use Rattle.litmus_text.proofs.Commas.{at_range, next_text, skip_text}
 use Rattle.program_run.proofs.json.write_lines.Goals as goal
 
 -- the texts of a line and of those after it, by whether the line was asked for

@@ -1,7 +1,7 @@
 use Rattle.std.proofs.Common.{drop, length}
 use Rattle.std.specs.Fmt.{WritesInCalls}
 use Rattle.std.specs.List.{range_with_len}
-use Rattle.json_text.specs.List.{with_commas_from}
+use Rattle.litmus_text.specs.JsonList.{with_commas_from}
 use Rattle.program_run.specs.Json.{line_objects_of, objects_of_lines}
 use Rattle.program_run.proofs.json.write_lines.Given as goal
 

@@ -1,9 +1,9 @@
 use Rattle.std.proofs.Common.{Bool, List, map, refl}
-use Rattle.script_text.proofs.Pieces.{last_piece}
+use Rattle.litmus_text.proofs.Pieces.{last_piece}
 use Rattle.program_run.specs.declared.column.Column.{Column}
-use Rattle.json_text.specs.List.{with_commas_from}
+use Rattle.litmus_text.specs.JsonList.{with_commas_from}
 use Rattle.program_run.specs.Json.{member_of}
-use Rattle.json_text.proofs.Commas.{next_text}
+use Rattle.litmus_text.proofs.Commas.{next_text}
 use Rattle.program_run.proofs.json.write_members.Goals as goal
 
 pub loop-column-preserved : goal.loop-column-preserved

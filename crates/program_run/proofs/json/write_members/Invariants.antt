@@ -1,6 +1,6 @@
 use Rattle.std.proofs.Common.{drop, map}
 use Rattle.std.specs.Fmt.{WritesInCalls}
-use Rattle.json_text.specs.List.{with_commas_from}
+use Rattle.litmus_text.specs.JsonList.{with_commas_from}
 use Rattle.program_run.specs.Json.{member_of, members_of}
 use Rattle.program_run.proofs.json.write_members.Given as goal
 

@@ -1,5 +1,5 @@
 use Rattle.std.proofs.Common.{List, refl}
-use Rattle.script_text.proofs.Pieces.{next_piece}
+use Rattle.litmus_text.proofs.Pieces.{next_piece}
 use Rattle.program_run.specs.declared.column.Column.{Column}
 use Rattle.program_run.specs.Report.{counts_of}
 use Rattle.program_run.proofs.report.write_counts.Goals as goal

@@ -1,5 +1,5 @@
 use Rattle.std.proofs.Common.{length, ℕ}
-use Rattle.script_text.proofs.Numbers.{last_number, next_number}
+use Rattle.litmus_text.proofs.Numbers.{last_number, next_number}
 use Rattle.program_run.specs.Report.{line_row}
 use Rattle.program_run.specs.Tally.{counts_at}
 use Rattle.program_run.proofs.report.write_lines.Goals as goal

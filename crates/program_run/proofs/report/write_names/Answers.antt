@@ -1,5 +1,5 @@
 use Rattle.std.proofs.Common.{refl}
-use Rattle.script_text.proofs.Pieces.{next_piece}
+use Rattle.litmus_text.proofs.Pieces.{next_piece}
 use Rattle.program_run.specs.Report.{names_of}
 use Rattle.program_run.proofs.report.write_names.Goals as goal
 

@@ -1,5 +1,5 @@
 use Rattle.std.proofs.Common.{length, ℕ}
-use Rattle.script_text.proofs.Numbers.{last_number, next_number}
+use Rattle.litmus_text.proofs.Numbers.{last_number, next_number}
 use Rattle.program_run.specs.Report.{usage_row}
 use Rattle.program_run.specs.Usage.{usage_at}
 use Rattle.program_run.proofs.report.write_usage_rows.Goals as goal

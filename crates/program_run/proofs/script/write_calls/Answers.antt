@@ -1,5 +1,5 @@
 use Rattle.std.proofs.Common.{refl}
-use Rattle.script_text.proofs.Pieces.{next_piece}
+use Rattle.litmus_text.proofs.Pieces.{next_piece}
 use Rattle.program_run.specs.Calls.{text_of_calls}
 use Rattle.program_run.proofs.script.write_calls.Goals as goal
 

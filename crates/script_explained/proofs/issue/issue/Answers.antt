@@ -2,7 +2,7 @@ use Rattle.std.proofs.Common.{◌≡◌, ◌∙◌, ap, subst, sym}
 use Rattle.address_map.specs.declared.request.Request.{Request}
 use Rattle.litmus_script.specs.Issued.{Issues}
 use Rattle.script_explained.specs.Issue.{issue_at}
-use Rattle.step_text.specs.declared.issue.Issue.{Issue}
+use Rattle.slice_text.specs.declared.step.issue.Issue.{Issue}
 use Rattle.script_explained.proofs.issue.issue.Goals as goal
 
 pub returns-clause-request : goal.returns-clause-request

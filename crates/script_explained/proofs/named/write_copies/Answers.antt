@@ -1,5 +1,5 @@
 use Rattle.std.proofs.Common.{refl}
-use Rattle.script_text.proofs.Pieces.{next_piece}
+use Rattle.litmus_text.proofs.Pieces.{next_piece}
 use Rattle.script_explained.specs.Named.{text_of_copies}
 use Rattle.script_explained.proofs.named.write_copies.Goals as goal
 

@@ -1,7 +1,7 @@
 use Rattle.std.proofs.Common.{drop}
 use Rattle.std.specs.Fmt.{WritesInCalls}
 use Rattle.std.specs.List.{range_with_len}
-use Rattle.json_text.specs.List.{with_commas_from}
+use Rattle.litmus_text.specs.JsonList.{with_commas_from}
 use Rattle.script_json.specs.Held.{lines_from, texts_of}
 use Rattle.script_json.proofs.held.write_lines.Given as goal
 

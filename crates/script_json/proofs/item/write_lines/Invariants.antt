@@ -1,6 +1,6 @@
 use Rattle.std.proofs.Common.{List, ℕ, Option, map}
 use Rattle.std.specs.Io.KnownBytes.{Appends}
-use Rattle.json_text.specs.List.{with_commas, with_commas_from}
+use Rattle.litmus_text.specs.JsonList.{with_commas, with_commas_from}
 use Rattle.script_json.specs.Value.{item_of_line}
 use Rattle.script_json.proofs.item.write_lines.Given as goal
 

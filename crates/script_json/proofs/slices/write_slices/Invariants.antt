@@ -1,6 +1,6 @@
 use Rattle.std.proofs.Common.{drop}
 use Rattle.std.specs.Fmt.{WritesInCalls}
-use Rattle.json_text.specs.List.{with_commas, with_commas_from}
+use Rattle.litmus_text.specs.JsonList.{with_commas, with_commas_from}
 use Rattle.script_json.specs.Slices.{texts_of_slices}
 use Rattle.script_json.proofs.slices.write_slices.Given as goal
 

@@ -1,6 +1,6 @@
 use Rattle.std.proofs.Common.{List, ℕ, Option, map}
 use Rattle.std.specs.Io.KnownBytes.{Appends}
-use Rattle.json_text.specs.List.{with_commas, with_commas_from}
+use Rattle.litmus_text.specs.JsonList.{with_commas, with_commas_from}
 use Rattle.script_json.specs.Text.{value_of}
 use Rattle.script_json.proofs.text.write_each.Given as goal
 

@@ -1,10 +1,10 @@
 use Rattle.std.proofs.Common.{◌++◌, ◌+◌, ◌∷◌, ◌∙◌, ℕ, Bool, List, ap, arith, drop, refl, sym}
 use Rattle.std.specs.List.{range_with_len}
 use Rattle.std.proofs.lemmas.List.FromFn.{length-range_with_len}
-use Rattle.script_text.proofs.Pieces.{last_piece}
+use Rattle.litmus_text.proofs.Pieces.{last_piece}
 use Rattle.script_page.specs.Core.{replies_of, replies_under, text_of_reply}
-use Rattle.json_text.specs.List.{with_commas_from}
-use Rattle.json_text.proofs.Commas.{at_range, next_text, skip_text}
+use Rattle.litmus_text.specs.JsonList.{with_commas_from}
+use Rattle.litmus_text.proofs.Commas.{at_range, next_text, skip_text}
 use Rattle.script_page.proofs.Replies.{no_reply}
 use Rattle.slice_core_cache.specs.CoreCache.{tag_at}
 use Rattle.slice_core_cache.specs.declared.tags.TagState.{TagState}

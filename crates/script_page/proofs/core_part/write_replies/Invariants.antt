@@ -2,7 +2,7 @@ use Rattle.std.proofs.Common.{drop}
 use Rattle.std.specs.Fmt.{WritesInCalls}
 use Rattle.std.specs.List.{range_with_len}
 use Rattle.script_page.specs.Core.{list_of_replies, replies_of}
-use Rattle.json_text.specs.List.{with_commas_from}
+use Rattle.litmus_text.specs.JsonList.{with_commas_from}
 use Rattle.script_page.proofs.core_part.write_replies.Given as goal
 
 -- who writes the replies of the tags that are left has written all

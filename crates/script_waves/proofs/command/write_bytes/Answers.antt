@@ -1,6 +1,6 @@
 use Rattle.std.proofs.Common.{◌∷◌, [], refl}
 use Rattle.std.specs.List.{flat_map}
-use Rattle.script_text.proofs.Pieces.{next_piece}
+use Rattle.litmus_text.proofs.Pieces.{next_piece}
 use Rattle.script_waves.specs.Values.{byte_shown}
 use Rattle.script_waves.proofs.command.write_bytes.Goals as goal
 

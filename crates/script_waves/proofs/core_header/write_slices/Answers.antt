@@ -1,5 +1,5 @@
 use Rattle.std.proofs.Common.{arith}
-use Rattle.script_text.proofs.Numbers.{next_number, last_number}
+use Rattle.litmus_text.proofs.Numbers.{next_number, last_number}
 use Rattle.script_waves.specs.Signals.{text_of_slice}
 use Rattle.script_waves.proofs.core_header.write_slices.Goals as goal
 

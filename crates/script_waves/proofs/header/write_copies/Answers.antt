@@ -1,7 +1,7 @@
 use Rattle.std.proofs.Common.{◌≡◌, ℕ, ◌+◌, List, ◌++◌, get_or, drop, refl, ap, arith}
 use Rattle.std.proofs.lemmas.List.FromFn.{length-range_with_len, get_or-range_with_len}
 use Rattle.std.specs.List.{flat_map, range_with_len}
-use Rattle.script_text.proofs.Pieces.{next_piece, last_piece}
+use Rattle.litmus_text.proofs.Pieces.{next_piece, last_piece}
 use Rattle.script_waves.specs.Signals.{text_of_signal}
 use Rattle.script_waves.specs.declared.signal.Signal.TheVariants as signals
 use Rattle.script_waves.proofs.header.write_copies.Goals as goal

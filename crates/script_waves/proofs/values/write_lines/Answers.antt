@@ -1,5 +1,5 @@
 use Rattle.std.proofs.Common.{refl}
-use Rattle.script_text.proofs.Pieces.{next_piece}
+use Rattle.litmus_text.proofs.Pieces.{next_piece}
 use Rattle.script_waves.specs.Values.{text_of_lines}
 use Rattle.script_waves.proofs.values.write_lines.Goals as goal
 

@@ -1,8 +1,8 @@
 use Rattle.std.proofs.Common.{Bool, List, arith, map, refl}
-use Rattle.script_text.proofs.Pieces.{last_piece}
+use Rattle.litmus_text.proofs.Pieces.{last_piece}
 use Rattle.slice_json.specs.Access.{text_of_entry}
-use Rattle.json_text.specs.List.{with_commas_from}
-use Rattle.json_text.proofs.Commas.{next_text}
+use Rattle.litmus_text.specs.JsonList.{with_commas_from}
+use Rattle.litmus_text.proofs.Commas.{next_text}
 use Rattle.slice_log.specs.declared.entry.Entry.{Entry}
 use Rattle.slice_json.proofs.access.write_entries.Goals as goal
 

@@ -1,7 +1,7 @@
 use Rattle.std.proofs.Common.{drop, map}
 use Rattle.std.specs.Fmt.{WritesInCalls}
 use Rattle.slice_json.specs.Access.{list_of_entries, text_of_entry}
-use Rattle.json_text.specs.List.{with_commas_from}
+use Rattle.litmus_text.specs.JsonList.{with_commas_from}
 use Rattle.slice_json.proofs.access.write_entries.Given as goal
 
 -- who writes the entries that are left has written all

@@ -1,7 +1,7 @@
 use Rattle.std.proofs.Common.{refl}
 use Rattle.std.specs.List.{flat_map}
 use Rattle.slice_json.specs.Json.{text_of_byte}
-use Rattle.script_text.proofs.Pieces.{next_piece}
+use Rattle.litmus_text.proofs.Pieces.{next_piece}
 use Rattle.slice_json.proofs.json.write_bytes.Goals as goal
 
 pub loop-byte-preserved : goal.loop-byte-preserved

@@ -1,9 +1,9 @@
 use Rattle.std.proofs.Common.{Bool, List, map, refl}
-use Rattle.script_text.proofs.Pieces.{last_piece}
+use Rattle.litmus_text.proofs.Pieces.{last_piece}
 use Rattle.address_map.specs.declared.address.LineAddr.{LineAddr}
-use Rattle.json_text.specs.List.{with_commas_from}
+use Rattle.litmus_text.specs.JsonList.{with_commas_from}
 use Rattle.slice_json.specs.Json.{text_of_line_number}
-use Rattle.json_text.proofs.Commas.{next_text}
+use Rattle.litmus_text.proofs.Commas.{next_text}
 use Rattle.slice_json.proofs.json.write_numbers.Goals as goal
 
 pub loop-line-preserved : goal.loop-line-preserved

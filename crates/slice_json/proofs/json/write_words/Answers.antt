@@ -1,8 +1,8 @@
 use Rattle.std.proofs.Common.{ℕ, Bool, List, map, refl}
-use Rattle.script_text.proofs.Pieces.{last_piece}
-use Rattle.json_text.specs.List.{with_commas_from}
+use Rattle.litmus_text.proofs.Pieces.{last_piece}
+use Rattle.litmus_text.specs.JsonList.{with_commas_from}
 use Rattle.slice_json.specs.Json.{text_of_value}
-use Rattle.json_text.proofs.Commas.{next_text}
+use Rattle.litmus_text.proofs.Commas.{next_text}
 use Rattle.slice_json.proofs.json.write_words.Goals as goal
 
 pub loop-word-preserved : goal.loop-word-preserved

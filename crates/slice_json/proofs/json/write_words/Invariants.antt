@@ -1,6 +1,6 @@
 use Rattle.std.proofs.Common.{drop, map}
 use Rattle.std.specs.Fmt.{WritesInCalls}
-use Rattle.json_text.specs.List.{with_commas, with_commas_from}
+use Rattle.litmus_text.specs.JsonList.{with_commas, with_commas_from}
 use Rattle.slice_json.specs.Json.{text_of_value}
 use Rattle.slice_json.proofs.json.write_words.Given as goal
 

@@ -1,6 +1,6 @@
 use Rattle.std.proofs.Common.{length, map}
 use Rattle.std.specs.Fmt.{WritesInCalls}
-use Rattle.json_text.specs.List.{with_commas, with_commas_from}
+use Rattle.litmus_text.specs.JsonList.{with_commas, with_commas_from}
 use Rattle.slice_json.specs.Message.{text_at}
 use Rattle.slice_json.proofs.message.write_fronts.Given as goal
 

@@ -1,4 +1,4 @@
-use Rattle.script_text.proofs.Numbers.{next_number, last_number}
+use Rattle.litmus_text.proofs.Numbers.{next_number, last_number}
 use Rattle.std.proofs.Common.{arith, length}
 use Rattle.slice_text.specs.Shown.{text_of_core}
 use Rattle.slice_text.proofs.copy.write_cores.Goals as goal

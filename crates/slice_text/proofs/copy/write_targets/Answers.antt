@@ -1,5 +1,5 @@
 use Rattle.std.proofs.Common.{refl}
-use Rattle.script_text.proofs.Pieces.{next_piece}
+use Rattle.litmus_text.proofs.Pieces.{next_piece}
 use Rattle.slice_text.specs.Shown.{text_of_targets}
 use Rattle.slice_text.proofs.copy.write_targets.Goals as goal
 

@@ -1,6 +1,6 @@
 use Rattle.std.proofs.Common.{refl}
 use Rattle.std.proofs.Output.{writes_in_calls_append}
-use Rattle.script_text.proofs.Pieces.{next_piece}
+use Rattle.litmus_text.proofs.Pieces.{next_piece}
 use Rattle.slice_text.specs.Line.{text_of_states}
 use Rattle.slice_text.proofs.line.write_copies.Goals as goal
 

@@ -1,5 +1,5 @@
 use Rattle.std.proofs.Common.{refl}
-use Rattle.script_text.proofs.Pieces.{next_piece}
+use Rattle.litmus_text.proofs.Pieces.{next_piece}
 use Rattle.slice_text.specs.Line.{text_of_words}
 use Rattle.slice_text.proofs.line.write_words.Goals as goal
 

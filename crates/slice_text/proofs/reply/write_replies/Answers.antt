@@ -1,5 +1,5 @@
 use Rattle.std.proofs.Common.{arith}
-use Rattle.script_text.proofs.Numbers.{next_number, last_number}
+use Rattle.litmus_text.proofs.Numbers.{next_number, last_number}
 use Rattle.slice_text.specs.Shown.{text_of_replies_to}
 use Rattle.slice_text.proofs.reply.write_replies.Goals as goal
 

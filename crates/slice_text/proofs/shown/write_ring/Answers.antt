@@ -1,5 +1,5 @@
 use Rattle.std.proofs.Common.{arith}
-use Rattle.script_text.proofs.Numbers.{next_number, last_number}
+use Rattle.litmus_text.proofs.Numbers.{next_number, last_number}
 use Rattle.slice_text.specs.Shown.{text_at_place}
 use Rattle.slice_text.proofs.shown.write_ring.Goals as goal
 

@@ -6,7 +6,7 @@ use Rattle.script_explained.specs.Issue.{named_by_answer}
 use Rattle.script_explained.specs.Named.{text_of_copies}
 use Rattle.script_json.specs.Answer.{members_of_evicted}
 use Rattle.script_json.specs.Value.{item_of}
-use Rattle.step_text.specs.Issue.{text_of_eviction}
+use Rattle.slice_text.specs.Issue.{text_of_eviction}
 use Rattle.script_json.proofs.writer.ValueWriter.write_eviction.Goals as goal
 
 pub returns-clause-written : goal.returns-clause-written

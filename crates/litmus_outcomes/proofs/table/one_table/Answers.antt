@@ -1,5 +1,0 @@
-use Rattle.litmus_outcomes.proofs.Unique.{one_table_lem}
-use Rattle.litmus_outcomes.proofs.table.one_table.Goals as goal
-
-pub returns : goal.returns
-returns c = one_table_lem

@@ -1,7 +1,0 @@
-pub mod NamedRequest
-pub mod Table
-pub mod Ended
-pub mod Forbid
-pub mod Form
-pub mod Json
-pub mod Text

@@ -1,0 +1,169 @@
+ghost use Rattle.std.specs.Prelude.{◌≡◌, ◌+◌, ◌^◌, ◌<◌, ◌≤◌, ℕ, List, [], ◌∷◌, ◌++◌, Any, IfErr, IfOk, IsOk, IsTrue, OnErr};
+ghost use Rattle.std.specs.Prelude.{OnOk, false};
+ghost use Rattle.std.specs.Prelude.{count_by, insert, length, vec_len};
+ghost use Rattle.litmus_test.specs.Forbid.{is_forbidden};
+ghost use Rattle.litmus_test.specs.Table.{Counts, IsBoth, IsGapFor, IsPlaceOf, IsSound, IsTableOf, TableView};
+
+use super::forbid::is_forbidden;
+use super::row::Row;
+use crate::LitmusTest;
+use std::alloc::{AllocError, Global};
+use std::marker::Model;
+
+/// How often each outcome came in the rounds so far.
+#[derive(Debug, Drop)]
+pub struct Outcomes {
+    alloc: Global,
+    rows: Vec<Row>,
+    /// How many rounds there were.
+    rounds: u64,
+}
+
+impl Model for Outcomes {
+    ghost use Rattle.litmus_test.specs.Table.{TableView, IsSound};
+
+    ghost Value = { TableView };
+
+    ghost view = { λ table. record { rows = table.rows.items; rounds = table.rounds } };
+
+    ghost invariant = { λ table. IsSound table.rows.items table.rounds };
+}
+
+impl Outcomes {
+    /// The table of no rounds.
+    pub fn new(alloc: Global) -> Self
+        ensures { IsTableOf [] result }
+    {
+        Outcomes {
+            alloc,
+            rows: Vec::new(alloc),
+            rounds: 0,
+        }
+    }
+
+    /// Counts the outcome of one more round. Takes memory only for an outcome that hasn't come before.
+    pub fn add(&mut self, values: &[u64]) -> Result<(), AllocError>
+        requires { self.old.rounds + 1 < 2 ^ 64 }
+        ensures ok { OnOk result
+            ((rounds : List (List ℕ)) → IsTableOf rounds self.old
+            → IsTableOf (rounds ++ values.now ∷ []) self.new) }
+        ensures err { OnErr result (self.new ≡ self.old) }
+        ensures known { Any (λ row. row.values ≡ values.now) self.old.rows → IsOk result }
+    {
+        self.count(values, 1, self.rounds)
+    }
+
+    /// Counts so many more rounds of an outcome, of which `first` is the first. Takes memory only for an outcome that
+    /// hasn't come before.
+    pub fn count(&mut self, values: &[u64], rounds: u64, first: u64) -> Result<(), AllocError>
+        requires { self.old.rounds + rounds < 2 ^ 64 }
+        ensures ok { OnOk result
+            (Counts (record { values = values.now; rounds = rounds; first = first }) self.old self.new) }
+        ensures err { OnErr result (self.new ≡ self.old) }
+        ensures known { Any (λ row. row.values ≡ values.now) self.old.rows → IsOk result }
+    {
+        match self.search(values) {
+            Ok(at) => {
+                let row = &mut self.rows[at];
+                row.come_again(rounds);
+            }
+            Err(at) => insert_row(self.alloc, &mut self.rows, at, values, rounds, first)?,
+        }
+        self.rounds += rounds;
+        Ok(())
+    }
+
+    /// The same, where so many rounds more can be counted. Returns whether they can.
+    pub fn try_count(&mut self, values: &[u64], rounds: u64, first: u64) -> Result<bool, AllocError>
+        ensures counted { IfOk result (λ counted. IsTrue counted
+            → Counts (record { values = values.now; rounds = rounds; first = first }) self.old self.new) }
+        ensures full { IfOk result (λ counted. counted ≡ false
+            → (self.new ≡ self.old) × (2 ^ 64 ≤ self.old.rounds + rounds)) }
+    {
+        if rounds > u64::MAX - self.rounds {
+            return Ok(false);
+        }
+        self.count(values, rounds, first)?;
+        Ok(true)
+    }
+
+    /// How many rounds there are.
+    pub fn rounds(&self) -> u64
+        ensures { result ≡ self.now.rounds }
+    {
+        self.rounds
+    }
+
+    /// Counts the rounds of another table too, whose round 0 is the round of this number here. At `Err` some of its rows
+    /// may be counted.
+    pub fn append(&mut self, from: u64, other: &Outcomes) -> Result<(), AllocError>
+        requires { self.old.rounds + other.now.rounds < 2 ^ 64 }
+        // The other's rounds come after those of this one.
+        ensures behind { OnOk result ((rounds more : List (List ℕ)) → from ≡ length rounds
+            → IsTableOf rounds self.old → IsTableOf more other.now → IsTableOf (rounds ++ more) self.new) }
+        // Also where rounds between the two are missing.
+        ensures both { OnOk result (IsBoth from self.old other.now self.new) }
+    {
+        let _ = &self.alloc;
+        for row in &other.rows {
+            let first = from.wrapping_add(row.first());
+            self.count(row.values(), row.rounds(), first)?;
+        }
+        Ok(())
+    }
+
+    /// A row for each outcome that came, ascending by its values. No round is lost or counted twice.
+    pub fn rows(&self) -> &[Row]
+        ensures rows { result.now ≡ self.now.rows }
+        ensures sound { IsSound self.now.rows self.now.rounds }
+    {
+        &self.rows
+    }
+
+    /// How many rounds had a forbidden outcome.
+    pub fn forbidden(&self, test: &LitmusTest<'_>) -> u64
+        ensures { (rounds : List (List ℕ)) → IsTableOf rounds self.now
+            → result ≡ count_by (is_forbidden test.now) rounds }
+    {
+        let mut count = 0;
+        for row in &self.rows {
+            if is_forbidden(test, row.values()) {
+                count += row.rounds();
+            }
+        }
+        count
+    }
+
+    // Where the row of an outcome is, or where it would go.
+    fn search(&self, values: &[u64]) -> Result<usize, usize>
+        ensures found { IfOk result (IsPlaceOf self.now.rows values.now) }
+        ensures absent { IfErr result (IsGapFor self.now.rows values.now) }
+    {
+        self.rows.binary_search_by(|row| row.values().cmp(values))
+    }
+}
+
+// Puts the row of an outcome at its place, which hasn't come before.
+fn insert_row(
+    alloc: Global,
+    rows: &mut Vec<Row>,
+    at: usize,
+    values: &[u64],
+    rounds: u64,
+    first: u64,
+) -> Result<(), AllocError>
+    requires { at ≤ vec_len rows.old }
+    ensures ok { OnOk result
+        (rows.new.items ≡ insert rows.old.items at (record { values = values.now; rounds = rounds; first = first })) }
+    ensures err { OnErr result (rows.new.items ≡ rows.old.items) }
+{
+    let mut copied = Vec::new(alloc);
+    copied.extend_from_slice(values)?;
+    rows.insert(at, Row::new(copied, rounds, first))?;
+    Ok(())
+}
+
+/// Rounds have one table alone.
+pub fn one_table()
+    ensures { (rounds : List (List ℕ)) (a b : TableView) → IsTableOf rounds a → IsTableOf rounds b → a ≡ b }
+{}

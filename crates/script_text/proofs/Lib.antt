@@ -1,4 +1,0 @@
-pub mod CommandLemmas
-pub mod Numbers
-pub mod Pieces
-pub mod SettingsLemmas

@@ -1,5 +1,0 @@
-use Rattle.script_text.proofs.CommandLemmas.{issue_text}
-use Rattle.script_text.proofs.command.write_issue.Goals as goal
-
-pub returns : goal.returns
-returns g c = rw (issue_text c.args.core.0 c.args.request.tag c.args.request.word.0 c.args.request.op) at c.writeln.ensures.writes

@@ -5,7 +5,6 @@ use Rattle.litmus_test.specs.Table.{RowView}
 use Rattle.litmus_test.specs.declared.outcomes.ended.Ended.{Ended}
 use Rattle.litmus_test.specs.declared.outcomes.ended.Ended.TheVariants as ended_kinds
 use Rattle.litmus_rounds.specs.declared.part.Part.{Part}
-use Rattle.litmus_rounds.specs.declared.part.TheConstants.{FORMAT, VERSION}
 
 -- the most moves of a round, where there is a limit
 abbrev pub limit_of : ℕ → List ℕ
@@ -17,7 +16,7 @@ word_of word = word ++ codes " "
 
 -- the first line begins with the versions of the format and of the program ..
 abbrev pub opening : List ℕ
-opening = word_of (codes "lockup-part") ++ (word_of FORMAT.now ++ (word_of VERSION.now ++ word_of (codes "test")))
+opening = word_of (codes "lockup-part") ++ (word_of (codes "1") ++ (word_of (codes "0.3.0") ++ word_of (codes "test")))
 
 -- .. and says which test and which limit ..
 abbrev pub walk_of : Part → List ℕ

@@ -5,7 +5,7 @@
 //! and just after it, so a call is made as without it. A [`Stepper`] plays a script's commands as steps, each delivery
 //! of a pump as one, and hands each to a [`StepWriter`]. [`Stepwise`] is the style of that.
 //!
-//! [`run_explained`] writes each step as its answer with what happened after it, as `step_text` says it
+//! [`run_explained`] writes each step as its answer with what happened after it, as `slice_text` says it
 //! (specs/Explains.antt); [`Explaining`] is that writer.
 //!
 //! [`run_beside`] writes the lines of each answer beside the command's own line (specs/Rows.antt).

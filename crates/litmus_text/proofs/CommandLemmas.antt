@@ -20,7 +20,6 @@ use Rattle.litmus_text.specs.declared.fault.LineFault.{LineFault}
 use Rattle.litmus_text.specs.declared.fault.LineFault.TheVariants as line_faults
 use Rattle.litmus_text.specs.declared.look.Look.TheVariants as looks
 use Rattle.litmus_text.specs.declared.look.MachineLook.{MachineLook}
-use Rattle.litmus_text.specs.declared.look.MachineLook.TheVariants as machine_looks
 use Rattle.litmus_text.specs.declared.parse.Verb.{Verb}
 use Rattle.litmus_text.specs.declared.parse.Verb.TheVariants as verbs
 use Rattle.litmus_text.specs.Command.{HasPick, HasTag, IsFaultOfCommand, IsInRange, IsRead, ReadsAs, Says, parts_of}
@@ -118,9 +117,7 @@ only_log words P h c form = grind (arith, common_steps)
 only_machine : (look : MachineLook) (words : List (List ℕ)) (P : Command → Type 0)
     → P (commands.Look (looks.Machine look))
     → (c : Command) → HasForm (name_of_machine_look look ∷ words) (parts_of c) → P c
-only_machine machine_looks.Stats words P h c form = grind (arith, common_steps)
-only_machine machine_looks.Waiting words P h c form = grind (arith, common_steps)
-only_machine machine_looks.Show words P h c form = grind (arith, common_steps)
+only_machine look words P h c form = grind (arith, common_steps)
 
 only_pump : (words : List (List ℕ)) (P : Command → Type 0) → ((calls : ℕ) → P (commands.Pump calls))
     → (c : Command) → HasForm (codes "pump" ∷ words) (parts_of c) → P c

@@ -88,7 +88,7 @@ verdict_legal judge initial entries fault n is count h =
     (count, knows.legal, knows.ordered)
 
 -- a word above the last that was named is above all of them
-named_above : (last : Option WordAddr) (init : List (WordAddr × ℕ)) (word : WordAddr) → IsLastNamed last init
+pub named_above : (last : Option WordAddr) (init : List (WordAddr × ℕ)) (word : WordAddr) → IsLastNamed last init
     → IsAscendingBy (λ pair. pair.0.0) init → IfSome last (λ l. l.0 < word.0) → All (λ pair. pair.0.0 < word.0) init
 named_above None init word none ascending above = rw none (All-nil (λ pair. pair.0.0 < word.0))
 named_above (Some l) init word named ascending above =
@@ -104,7 +104,7 @@ named_above (Some l) init word named ascending above =
     omega arith) in
     rw shape (All-push (λ pair. pair.0.0 < word.0) before last under above)
 
-so_far_named : (judge now : Judge) (was is : ℕ → ℕ) (fault : Option (ℕ × Reason))
+pub so_far_named : (judge now : Judge) (was is : ℕ → ℕ) (fault : Option (ℕ × Reason))
     → (Knows judge was [] → Knows now is [])
     → IsSoFar judge was [] fault → IsSoFar now is [] fault
 unfolding IsSoFar IsVerdict

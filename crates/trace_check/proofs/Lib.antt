@@ -4,7 +4,7 @@ mod ValueLemmas
 mod VerdictLemmas
 mod FormLemmas
 mod LineFaultLemmas
-mod CheckLemmas
+pub mod CheckLemmas
 mod ExactLemmas
 mod RefusalLemmas
 mod ReadingLemmas

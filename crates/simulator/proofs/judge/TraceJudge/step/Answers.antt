@@ -1,5 +1,5 @@
 use Rattle.std.proofs.lemmas.Result.{on_ok_weaker}
-use Rattle.simulator.proofs.JudgeLemmas.{step_behind, step_wrong, step_right}
+use Rattle.trace_check.proofs.CheckLemmas.{step_behind, step_wrong, step_right}
 use Rattle.simulator.proofs.judge.TraceJudge.step.Goals as goal
 
 pub returns-in-Some-clause-so_far : goal.returns-in-Some-clause-so_far

@@ -1,4 +1,4 @@
-use Rattle.simulator.proofs.JudgeLemmas.{verdict_illegal, verdict_legal}
+use Rattle.trace_check.proofs.CheckLemmas.{verdict_illegal, verdict_legal}
 use Rattle.simulator.proofs.judge.TraceJudge.verdict.Goals as goal
 
 pub returns-in-Some : goal.returns-in-Some

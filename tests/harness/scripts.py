@@ -5,7 +5,10 @@ from functools import cache
 from .cases import all_cases
 from .processes import ROOT, read
 
-COMMANDS = "issue evict deliver pump hand word state waiting show stats log".split()
+# by how many lines they answer with: one, or as many as there is to show
+ANSWERED = "issue evict deliver pump hand word state".split()
+LONG_ANSWERS = "waiting show stats log".split()
+COMMANDS = [*ANSWERED, *LONG_ANSWERS]
 FIELDS = "cores slices lines sets ways mshrs targets writebacks policy misses exclusive init counter".split()
 
 

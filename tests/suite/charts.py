@@ -20,7 +20,7 @@ from itertools import zip_longest
 from typing import Iterator
 
 from harness import ROOT, each, lockup, read, same, want, write
-from harness.scripts import example, examples, files_of_cases, first_word, is_trace
+from harness.scripts import ANSWERED, LONG_ANSWERS, example, examples, files_of_cases, first_word, is_trace
 
 WHO = "(?:dir[0-3]|core[0-9]+)"
 MESSAGE = (r"(?:GetS|GetM|PutS|PutM|Put-Ack|(?:Fwd-GetS|Fwd-GetM|Inv) for core [0-9]+|Data\([0-9]+\)|Data-E|Data home"
@@ -42,9 +42,6 @@ FORMS = [re.compile(form) for form in (
     "    Note over dir[0-3]: word [0-9]+: (?:[0-9]+|not quiet)",
     "    Note over dir[0-3]: state [0-9]+: line [-0-9A-Za-z_, ]+",
 )]
-ANSWERED = ("issue", "evict", "deliver", "pump", "hand", "word", "state")
-# commands whose answers have more than one line, and stand in no chart
-LONG_ANSWERS = ("log", "show", "stats", "waiting")
 
 
 def check_forms(chart: list[str]) -> None:

@@ -3,8 +3,9 @@ and what the program says was expected, worked out by hand from docs/TEXTS.md.""
 import tempfile
 
 from harness import each, lockup, same, write
+from harness.scripts import COMMANDS
 
-NAMES = "issue, evict, deliver, pump, hand, word, state, waiting, show, stats, log, or a field of the configuration"
+NAMES = f"{', '.join(COMMANDS)}, or a field of the configuration"
 BEHIND_A_COMMAND = [
     ("isue 0 0 load 8", "not a command", f"'isue': {NAMES}"),
     ("issue 0 0 laod 8", "not a command", "'laod': load, store, add or cas"),

@@ -41,19 +41,17 @@ pub use litmus_command_line::{
     CommandLine, ModelCores, ScheduleForm, ScriptForm, Table, WhatIfForm, read_files, read_line,
     read_settings,
 };
-pub use litmus_test::OutcomeForm;
 pub use litmus_rounds::{Gap, Merged, Part, PartFault, Parts, processors, sum_of};
 pub use litmus_script::run_script;
-pub use litmus_test::{Progress, Silent};
+pub use litmus_test::{OutcomeForm, Progress, Silent};
 pub use litmus_text::TextFault;
 pub use murphi_trace::run_trace;
 pub use parts::{print_merged, print_parts};
-pub use program_text::{GenerateFault, Size, Workload, write_workload};
 pub use program_run::{Form, run_programs, write_schedule};
 pub use program_sweep::{
     RowFault, RowForm, Seeds, Setting, Sweep, SweepFault, program_name, run_sweep,
 };
-pub use program_text::Limits;
+pub use program_text::{GenerateFault, Limits, Size, Workload, write_workload};
 pub use script_coverage::{Coverage, Unread, print_coverage, run_coverage};
 pub use script_explained::{run_beside, run_explained};
 pub use script_json::run_json;

@@ -3,8 +3,8 @@ ghost use Rattle.litmus_chart.specs.Chart.{receiver_of, sender_of};
 
 use address_map::{CoreId, LineAddr};
 use slice_core::{Cell, Message, Pick};
-use std::fmt;
 use slice_text::MessageName;
+use std::fmt;
 
 /// Who takes part in a chart.
 #[derive(Clone, Copy, Debug, PartialEq, Eq)]

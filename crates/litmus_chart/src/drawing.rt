@@ -5,9 +5,9 @@ use super::style::STYLE;
 use address_map::CoreId;
 use litmus_text::write_command;
 use slice_core::{Entry, Op, Pick};
+use slice_text::{Asked, MessageName};
 use std::fmt;
 use std::fmt::Write;
-use slice_text::{Asked, MessageName};
 
 // In pixels: where the first lifeline stands, how far the next, where the first row, how far the next, half a bar.
 const FIRST_LIFE: usize = 270;

@@ -3,9 +3,9 @@ use address_map::{Checked, CoreId, CoreSet, LineAddr};
 use litmus_script::TextWriter;
 use litmus_text::Statement;
 use slice_core::LineView;
+use slice_text::Cores;
 use std::fmt::{Display, Write};
 use std::{fmt, io};
-use slice_text::Cores;
 
 /// Writes who takes part: the directory of each slice, and then each core.
 pub fn write_participants<W: Write>(config: &Checked, out: &mut W) -> fmt::Result {

@@ -9,7 +9,9 @@ ghost use Rattle.litmus_test.specs.Form.{text_of_gave_up, text_of_outcomes, text
 
 use super::batch::walk_batches;
 use litmus_script::TextWriter;
-use litmus_test::{Ended, LitmusTest, OutcomeForm, Outcomes, Progress, write_gave_up, write_outcomes, write_stuck};
+use litmus_test::{
+    Ended, LitmusTest, OutcomeForm, Outcomes, Progress, write_gave_up, write_outcomes, write_stuck,
+};
 use litmus_text::TextFault;
 use std::alloc::Global;
 use std::io::Write;

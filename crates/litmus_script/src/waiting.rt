@@ -22,9 +22,9 @@ use arrayvec::ArrayVec;
 use litmus_text::{Delivery, TextFault};
 use mshr_file::EitherFile;
 use slice_core::{CopyState, Pick, Plan, SliceState};
+use slice_text::MessageName;
 use std::fmt::Write;
 use std::{fmt, io};
-use slice_text::MessageName;
 
 impl Machine {
     /// Shows the messages in flight.

@@ -15,11 +15,11 @@ ghost use Rattle.slice_queues_message.specs.declared.channel.Class.TheVariants a
 use super::look;
 use super::step::DeliveryStep;
 use address_map::CoreId;
-use mshr_file::EitherFile;
 use litmus_text::Delivery;
+use mshr_file::EitherFile;
 use slice_core::{Class, Delivered, DeliveredNext, Pick, Plan, SliceState};
-use std::fmt;
 use slice_text::{Case, Done, Event, ExplainedDelivery, Who};
+use std::fmt;
 
 /// Delivers the message in front of a channel of the slice with this number.
 pub(crate) fn deliver(state: &mut SliceState<EitherFile>, slice: usize, pick: Pick) -> DeliveryStep

@@ -4,8 +4,8 @@ ghost use Rattle.litmus_script.specs.Answer.{WritesLine, text_of_handed};
 ghost use Rattle.script_explained.specs.Hand.{told_of_hand};
 
 use super::step::HandStep;
-use std::fmt;
 use slice_text::Performed;
+use std::fmt;
 
 /// Writes the reply that was handed out, with the access that it answers.
 pub(crate) fn write_hand<W: fmt::Write>(step: HandStep, out: &mut W) -> fmt::Result

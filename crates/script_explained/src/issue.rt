@@ -17,10 +17,10 @@ use litmus_script::{TextWriter, written};
 use litmus_text::TextFault;
 use mshr_file::EitherFile;
 use slice_core::{CoreLines, Evicted, Pick, SliceState};
+use slice_text::{Case, Event, Eviction, Issue, Who};
 use std::alloc::Global;
 use std::fmt;
 use std::io::Write;
-use slice_text::{Case, Event, Eviction, Issue, Who};
 
 /// Asks for an access of a core in the slice with this number.
 pub(crate) fn issue(

@@ -6,8 +6,8 @@ ghost use Rattle.script_explained.specs.Unrest.{first_unrest, replies_in, replie
 
 use super::step::WordStep;
 use address_map::{Checked, CoreId, WordAddr};
-use mshr_file::EitherFile;
 use litmus_text::Delivery;
+use mshr_file::EitherFile;
 use slice_core::{Pick, SliceState, TagState};
 use std::fmt;
 

@@ -2,8 +2,8 @@
 ghost use Rattle.std.specs.Prelude.{◌≡◌};
 ghost use Rattle.script_json.specs.Answer.{text_of_reason, text_of_refused, text_of_stall};
 
-use litmus_text::Number;
 use litmus_script::Issued;
+use litmus_text::Number;
 use slice_answer::{Refused, Stall};
 use std::fmt;
 

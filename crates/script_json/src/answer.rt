@@ -4,8 +4,8 @@ ghost use Rattle.script_json.specs.Answer.{members_of_delivered, members_of_evic
 
 use super::access::Access;
 use address_map::{CoreId, LineAddr};
-use litmus_text::Number;
 use litmus_script::{Issued, Pumped};
+use litmus_text::Number;
 use slice_answer::{Cell, Delivered, Evicted};
 use slice_log::Numbered;
 use slice_queues_message::Pick;

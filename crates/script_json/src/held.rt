@@ -10,8 +10,8 @@ ghost use Rattle.slice_text.specs.Shown.{is_idle};
 
 use address_map::{CoreId, LineAddr};
 use arrayvec::ArrayVec;
-use litmus_text::write_comma;
 use litmus_script::Machine;
+use litmus_text::write_comma;
 use mshr_file::EitherFile;
 use slice_core::{CopyState, DirState, LineView, LineWaiting, SliceState};
 use slice_json::{write_copy_in, write_line_in};

@@ -9,8 +9,8 @@ ghost use Rattle.slice_answer.specs.Text.{text_of_evicted};
 use litmus_script::Issued;
 use script_explained::{HandStep, Unrest};
 use slice_answer::Evicted;
-use std::alloc::{AllocError, Global};
 use slice_text::{ExplainedDelivery, Performed};
+use std::alloc::{AllocError, Global};
 
 /// What happened at a delivery.
 pub(crate) fn of_delivery(

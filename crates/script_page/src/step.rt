@@ -16,11 +16,11 @@ use mshr_file::EitherFile;
 use script_explained::Step;
 use slice_core::{Class, DeliveredNext, Plan, SliceState};
 use slice_json::{write_json, write_line_in, write_log};
+use slice_text::ExplainedDelivery;
 use stats_report::write_text;
 use std::alloc::Global;
 use std::fmt;
 use std::io::Write;
-use slice_text::ExplainedDelivery;
 
 /// A step as a page tells it: its place in the script, the text of its command, and its answer with what happened.
 #[derive(Clone, Copy)]

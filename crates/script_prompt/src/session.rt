@@ -15,7 +15,9 @@ use super::machine;
 use super::own::Own;
 use address_map::{Checked, CoreId, Op, Request, SliceId, WordAddr};
 use litmus_script::{Commands, Echo, Machine, Player, Script, TextWriter, written};
-use litmus_text::{Command, Settings, Statement, Statements, TextFault, parse_command, write_command};
+use litmus_text::{
+    Command, Settings, Statement, Statements, TextFault, parse_command, write_command,
+};
 use mshr_file::MissKind;
 use script_explained::{Explaining, Stepper};
 use slice_core::DeliveredNext;

@@ -8,9 +8,9 @@ ghost use Rattle.slice_json.specs.Json.{text_of_block, text_of_byte, text_of_lin
 
 use address_map::{Block, CoreSet, LineAddr};
 use litmus_text::write_comma;
+use slice_text::Cores;
 use std::fmt;
 use std::fmt::Write;
-use slice_text::Cores;
 
 /// Writes bytes as a string of JSON, in which no tag of HTML begins. A byte that isn't ASCII stands for the character
 /// of its number.

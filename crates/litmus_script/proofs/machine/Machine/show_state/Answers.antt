@@ -9,5 +9,5 @@ returns-clause-printed g c =
     on_written c.write_line.result c.written.result c.written.ensures.fine
     (λ wrote.
     let (name, bytes) = Appends-of_writes (λ s. s.out.ghost_name) (λ s. contents s.out.now) _ _ _ wrote in
-    record { printed = (refl, _, c.line_now-shown.ensures, search rules) })
+    record { printed = (refl, (_, c.line_now-shown.ensures, search rules)) })
     c.write_line.ensures

@@ -9,8 +9,8 @@ use Rattle.litmus.proofs.traces.write_logs.Given as goal
 abbrev pub invariant-loop-slice : goal.invariant-loop-slice
 invariant-loop-slice g l =
     let contents = g.W.Write.contents in
-    let built = l.fn.machine.now.config in
-    let states = l.fn.machine.now.slices.items in
+    let built = l.fn.machine.config in
+    let states = l.fn.machine.slices.items in
     record {
       written : (after : Option (List ℕ))
           → Appends (contents l.out) after (flat_map (text_of_slice built states) (numbers_from l.slice built.slices))

@@ -13,7 +13,7 @@ use Rattle.protocol_tables.specs.declared.directory_rows.DirCase.TheVariants as 
 use Rattle.protocol_tables.specs.declared.directory_rows.Entry.{Entry}
 use Rattle.protocol_tables.specs.declared.directory_rows.Entry.TheVariants as entries
 use Rattle.protocol_tables.specs.declared.directory_rows.Sharing.TheVariants as sharing
-use Rattle.changed_tables.specs.Directory.{does_at, entry_seen, no_asker, row_at, shared_entry, sharing_of_others}
+use Rattle.changed_tables.specs.Directory.{does_at, entry_seen, no_asker, row_at, shared_entry}
 use Rattle.changed_tables.proofs.SeenEntries.{is_seen}
 
 -- where a core asks, what it sees says the row

@@ -1,12 +1,12 @@
 -- What comes before what in each order that explains a history.
-use Rattle.std.proofs.Common.{◌≡◌, ◌≢◌, ℕ, ◌^◌, ◌<◌, ◌≤◌, ◌⊎◌, List, length, Option, Some, None, refl, sym, ap, ◌∙◌}
+use Rattle.std.proofs.Common.{◌≡◌, ◌≢◌, ℕ, ◌^◌, ◌<◌, ◌≤◌, ◌⊎◌, List, length, Some, None, sym, ap, ◌∙◌}
 use Rattle.std.proofs.Common.{inl, inr, arith, subst, get_or}
 use Rattle.std.specs.Prelude.{slice_get}
 use Rattle.std.proofs.lemmas.Bool.{cases_order}
 use Rattle.std.proofs.lemmas.Option.{slice_get_within, slice_get-get_or, same_Some}
 use Rattle.history_judge.specs.Order.{HasEachOnce, IsOrderOf, HasNoOrder}
 use Rattle.history_judge.specs.Before.{found_at, IsBefore, IsBeforeIn, IsInitialAlone, IsSourceOf, IsWrite}
-use Rattle.history_judge.specs.Writers.{left_at, IsAlone}
+use Rattle.history_judge.specs.Writers.{left_at}
 use Rattle.history_judge.specs.declared.access.Access.{Access}
 use Rattle.history_judge.proofs.LastChange.{HasNoChange, HasLastChange}
 use Rattle.history_judge.proofs.Runs.{IsRun, run_of, value_before, changed_last, left_then, left_then-at}

@@ -1,5 +1,5 @@
 -- What comes before what in each order of a history.
-use Rattle.std.specs.Prelude.{◌≡◌, ◌≢◌, ℕ, ◌<◌, ◌^◌, List, length, slice_get, Option, Some, option_and_then}
+use Rattle.std.specs.Prelude.{◌≡◌, ◌≢◌, ℕ, ◌<◌, ◌^◌, List, slice_get, Option, Some, option_and_then}
 use Rattle.history_judge.specs.Access.{found_in}
 use Rattle.history_judge.specs.Order.{IsOrderOf}
 use Rattle.history_judge.specs.Writers.{left_at, IsAlone}

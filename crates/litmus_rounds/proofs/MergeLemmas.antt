@@ -1,10 +1,8 @@
 -- Parts that are put together.
-use Rattle.std.proofs.Common.{◌≡◌, ◌⊎◌, ℕ, ◌+◌, List, [], ◌∷◌, ◌++◌, ap, arith, inl, inr, refl, subst, sym, ◌∙◌}
+use Rattle.std.proofs.Common.{◌≡◌, ◌⊎◌, ℕ, ◌+◌, List, [], ◌∷◌, ◌++◌, arith, inl, inr, refl, subst, sym, ◌∙◌}
 use Rattle.std.specs.Prelude.{◌≢◌, All}
 use Rattle.std.proofs.lemmas.List.Elements.{All-head}
 use Rattle.litmus_test.proofs.Between.{All-back, All-front}
-use Rattle.litmus_test.specs.Ended.{ended_behind}
-use Rattle.litmus_test.specs.Table.{TableView}
 use Rattle.litmus_test.specs.declared.outcomes.ended.Ended.{Ended}
 use Rattle.litmus_test.specs.declared.outcomes.ended.Ended.TheVariants as ended_kinds
 use Rattle.litmus_rounds.specs.declared.part.Part.{Part}
@@ -13,8 +11,6 @@ use Rattle.litmus_rounds.specs.Parts.{IsPartOf}
 use Rattle.litmus_rounds.specs.Run.{HaveEnded, seed_of}
 use Rattle.litmus_rounds.specs.declared.merge.Merged.{Merged}
 use Rattle.litmus_rounds.proofs.RoundLemmas.{all_ended, ended_early}
-use Rattle.litmus_test.specs.declared.test.LitmusTest.{LitmusTest}
-use Rattle.mshr_file.specs.Miss.{Bound}
 
 -- either all rounds have an outcome or one has none
 done_or_not : (ended : Ended) → (ended ≡ ended_kinds.Done) ⊎ (ended ≢ ended_kinds.Done)

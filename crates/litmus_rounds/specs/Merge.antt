@@ -3,7 +3,7 @@ use Rattle.std.specs.Prelude.{◌≡◌, ◌≢◌, ℕ, ◌+◌, ◌≤◌, ◌
 use Rattle.litmus_test.specs.Ended.{ended_behind, round_of}
 use Rattle.litmus_test.specs.Table.{IsTableOf}
 use Rattle.litmus_test.specs.declared.outcomes.ended.Ended.TheVariants as ended_kinds
-use Rattle.litmus_rounds.specs.Parts.{IsPartOf, count_of_parts}
+use Rattle.litmus_rounds.specs.Parts.{IsPartOf}
 use Rattle.litmus_rounds.specs.Run.{HaveEnded, seed_of}
 use Rattle.litmus_rounds.specs.declared.merge.Merged.{Merged}
 use Rattle.litmus_rounds.specs.declared.part.Part.{Part}

@@ -3,7 +3,7 @@ use Rattle.std.proofs.Common.{◌≡◌, ℕ, List, [], ◌∷◌, ◌++◌, cod
 use Rattle.address_map.specs.declared.request.Op.{Op}
 use Rattle.address_map.specs.declared.request.Op.TheVariants as ops
 use Rattle.litmus_text.specs.Command.{parts_of_op}
-use Rattle.litmus_text.specs.Form.{Part, key, num}
+use Rattle.litmus_text.specs.Form.{key, num}
 use Rattle.litmus_text.specs.Line.{line_of_parts, text_of_parts}
 
 -- a number after a blank

@@ -6,7 +6,7 @@ use Rattle.std.proofs.lemmas.Nat.{div-add-mod', mod_below}
 use Rattle.std.proofs.Math.Nat.{div-mul-le_self, mul-le-mul_right}
 use Rattle.std.specs.Prelude.{◌&&◌, ◌||◌, cond}
 use Rattle.std.specs.List.{list_all, list_any}
-use Rattle.litmus_script.specs.Pump.{AreRounds, ComesTo, Delivers, IsRound, Moves, MovesTimes, Pumps, is_moved}
+use Rattle.litmus_script.specs.Pump.{AreRounds, ComesTo, Delivers, Moves, MovesTimes, Pumps, is_moved}
 use Rattle.litmus_script.specs.Pump.{is_nothing, round_after, round_of}
 use Rattle.litmus_script.specs.declared.answers.Pumped.{Pumped}
 use Rattle.litmus_script.specs.declared.answers.Pumped.TheVariants as pumps

@@ -49,7 +49,7 @@ impl Machine {
     }
 
     /// Shows what a slice has of a line.
-    pub fn show_state<W: Write>(&self, line: LineAddr, out: &mut W) -> Result<(), TextFault>
+    fn show_state<W: Write>(&self, line: LineAddr, out: &mut W) -> Result<(), TextFault>
         requires { HasLine self.now.config line }
         ensures fault { IfErr result IsOfRun }
         ensures printed { OnOk result (IsPrinted self.now.config (commands.Look (looks.State line))
@@ -88,7 +88,7 @@ impl Machine {
     }
 
     /// Shows all that isn't at rest.
-    pub fn show_moving<W: Write>(&self, out: &mut W) -> Result<(), TextFault>
+    fn show_moving<W: Write>(&self, out: &mut W) -> Result<(), TextFault>
         ensures fault { IfErr result IsOfRun }
         ensures printed { OnOk result (IsPrinted self.now.config (commands.Look (looks.Machine machine_looks.Show))
             self.now.slices.items self.now.slices.items

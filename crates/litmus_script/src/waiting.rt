@@ -28,7 +28,7 @@ use std::{fmt, io};
 
 impl Machine {
     /// Shows the messages in flight.
-    pub fn show_waiting<W: io::Write>(&self, out: &mut W) -> Result<(), TextFault>
+    pub(crate) fn show_waiting<W: io::Write>(&self, out: &mut W) -> Result<(), TextFault>
         ensures fault { IfErr result IsOfRun }
         ensures printed { OnOk result (IsPrinted self.now.config (commands.Look (looks.Machine machine_looks.Waiting))
             self.now.slices.items self.now.slices.items

@@ -1,6 +1,6 @@
 -- The script of a run.
-use Rattle.std.specs.Prelude.{◌≡◌, ℕ, zero, suc, ◌+◌, ◌%◌, ◌==◌, max, Bool, true, false, List, [], ◌∷◌, ◌++◌, Option, None}
-use Rattle.std.specs.Prelude.{Some, codes, is_some, option_and_then, option_map}
+use Rattle.std.specs.Prelude.{◌≡◌, ℕ, zero, suc, ◌+◌, ◌%◌, ◌==◌, max, Bool, true, false, List, [], ◌∷◌, ◌++◌, Option}
+use Rattle.std.specs.Prelude.{codes, is_some, option_and_then, option_map}
 use Rattle.std.specs.List.{count_by, filter_map, flat_map, list_any}
 use Rattle.std.specs.Str.Lines.{lines}
 use Rattle.address_map.specs.declared.address.CoreId.{CoreId}

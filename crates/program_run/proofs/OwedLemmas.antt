@@ -1,6 +1,6 @@
 -- What slices have still to deliver after an access.
 use Rattle.std.proofs.Common.{◌≡◌, ◌≢◌, ℕ, zero, suc, ◌+◌, ◌<◌, ◌≤◌, List, [], ◌∷◌, ◌++◌, append-nil, ap, arith, drop}
-use Rattle.std.proofs.Common.{get_or, length, map, refl, sym, subst, take, ◌∙◌, Option, Some, None}
+use Rattle.std.proofs.Common.{length, map, refl, sym, subst, take, ◌∙◌, Option, Some, None}
 use Rattle.std.specs.Prelude.{IfSome, slice_get, slice_index_or}
 use Rattle.std.specs.List.{flat_map}
 use Rattle.std.proofs.lemmas.List.{drop_all, drop_more, take_all}
@@ -11,7 +11,7 @@ use Rattle.address_map.specs.declared.address.Local.{Local}
 use Rattle.slice_core.specs.Facts.{AreWaitingAt, Holds}
 use Rattle.slice_core_plan.specs.Calls.{PartsView}
 use Rattle.slice_core_plan.specs.Parts.{ring_lines}
-use Rattle.slice_core_plan.specs.View.{View, channels_at}
+use Rattle.slice_core_plan.specs.View.{View}
 use Rattle.slice_queues_message.specs.Pick.{pick_at}
 use Rattle.slice_queues_message.specs.declared.channel.Channel.{Channel}
 use Rattle.program_run.specs.Front.{HasIdleFront, IsIdle}

@@ -1,5 +1,5 @@
 -- How a run goes on, move by move.
-use Rattle.std.proofs.Common.{◌≡◌, ℕ, ◌+◌, ◌-◌, ◌^◌, List, [], ◌∷◌, ◌++◌, length, None, Option, refl, sym, subst, ◌∙◌}
+use Rattle.std.proofs.Common.{◌≡◌, ℕ, ◌+◌, ◌-◌, ◌^◌, List, [], ◌∷◌, ◌++◌, length, Option, refl, sym, subst, ◌∙◌}
 use Rattle.std.proofs.Common.{Some, arith, false, inl, inr, true}
 use Rattle.std.specs.Io.KnownBytes.{Appends}
 use Rattle.address_map.specs.declared.config.Config.{Config}

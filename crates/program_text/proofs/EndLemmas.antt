@@ -1,5 +1,5 @@
 -- The end of a text.
-use Rattle.std.proofs.Common.{◌≡◌, ℕ, ◌-◌, List, [], ◌∷◌, ◌++◌, length, map, refl, sym, ap, subst, ◌∙◌, inr, append-nil}
+use Rattle.std.proofs.Common.{◌≡◌, ◌-◌, List, [], ◌∷◌, ◌++◌, length, refl, sym, ap, subst, ◌∙◌, inr, append-nil}
 use Rattle.std.specs.Prelude.{None, Some, reverse, slice_get}
 use Rattle.std.proofs.lemmas.List.{reverse-reverse}
 use Rattle.address_map.specs.Config.{first_fault}

@@ -4,7 +4,7 @@ use Rattle.std.specs.Prelude.{codes, IsTrue}
 use Rattle.litmus_text.proofs.FieldLemmas.{field_name, is_no_field, no_field_name}
 use Rattle.litmus_text.proofs.FormLemmas.{wrong_count}
 use Rattle.litmus_text.specs.Field.{IsFieldName}
-use Rattle.litmus_text.specs.Form.{Part, Writes}
+use Rattle.litmus_text.specs.Form.{Part}
 use Rattle.litmus_text.specs.declared.config_line.ConfigLine.{ConfigLine}
 use Rattle.litmus_text.specs.declared.config_line.ConfigLine.TheVariants as config_lines
 use Rattle.program_text.specs.declared.keyword.Keyword.{Keyword}

@@ -1,7 +1,7 @@
 -- What the statements that are left say, all of them say.
-use Rattle.std.proofs.Common.{◌≡◌, ℕ, List, [], ◌∷◌, ◌++◌, map, refl, sym, ap, subst, ◌∙◌, inl, inr, append-nil}
+use Rattle.std.proofs.Common.{◌≡◌, ℕ, List, [], ◌∷◌, ◌++◌, refl, sym, ap, subst, ◌∙◌, inl, inr, append-nil}
 use Rattle.std.proofs.Common.{append_assoc}
-use Rattle.std.specs.Prelude.{◌⊎◌, Bool, false, None, Option, Some, Result, Ok, Err, OnOk, reverse}
+use Rattle.std.specs.Prelude.{◌⊎◌, false, None, Option, Some, Result, Ok, Err, OnOk, reverse}
 use Rattle.std.specs.Option.{option_map_or}
 use Rattle.std.specs.Str.Lines.{lines}
 use Rattle.address_map.specs.Config.{checked_of, first_fault}
@@ -18,14 +18,14 @@ use Rattle.litmus_text.specs.declared.settings.Settings.{Settings}
 use Rattle.program_text.specs.declared.programs.Limits.{Limits}
 use Rattle.program_text.specs.declared.programs.Programs.{Programs}
 use Rattle.litmus_text.proofs.FaultLemmas.{form_refuses}
-use Rattle.program_text.specs.Fault.{BeginOtherwise, HasFault, IsConfigFault, IsFault, IsFaultyLine, IsProgramText}
+use Rattle.program_text.specs.Fault.{BeginOtherwise, HasFault, IsFault, IsProgramText}
 use Rattle.program_text.specs.Fault.{Says, Statement, programs_of, settings_of}
 use Rattle.program_text.specs.Judged.{fault_of, first_so, is_first}
 use Rattle.program_text.specs.Keyword.{IsFormFault}
 use Rattle.program_text.specs.Line.{Line, setting, BeginsAsSetting, WritesLine, WritesSetting}
 use Rattle.program_text.specs.Reading.{IsPlaceFault, IsRead, IsReading, said_first}
 use Rattle.program_text.specs.Text.{Program, Said, said_line, said_nothing}
-use Rattle.program_text.proofs.LineLemmas.{no_empty_line, only_setting}
+use Rattle.program_text.proofs.LineLemmas.{only_setting}
 
 -- what statements say, and what others say after them, both say together
 says_append : (start said whole : Said) (done left : List Statement)

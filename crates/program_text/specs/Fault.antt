@@ -1,5 +1,5 @@
 -- Which texts are programs, and why any other is read no further.
-use Rattle.std.specs.Prelude.{◌≡◌, ◌⊎◌, ℕ, List, [], ◌∷◌, ◌++◌, None, Option, Some, map, reverse}
+use Rattle.std.specs.Prelude.{◌≡◌, ◌⊎◌, ℕ, List, [], ◌∷◌, ◌++◌, None, Some, map, reverse}
 use Rattle.std.specs.Str.Lines.{lines}
 use Rattle.address_map.specs.Config.{first_fault}
 use Rattle.address_map.specs.declared.config.ConfigError.{ConfigError}

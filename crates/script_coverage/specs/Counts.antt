@@ -1,5 +1,5 @@
 -- How often the cells were met: a count for each of them, in their order, or none where it isn't listed.
-use Rattle.std.specs.Prelude.{◌≡◌, ℕ, ◌+◌, ◌≤◌, ◌^◌, Bool, true, false, not, List, [], ◌∷◌, ◌++◌, drop, take, Option, Some, None}
+use Rattle.std.specs.Prelude.{◌≡◌, ℕ, ◌+◌, ◌≤◌, ◌^◌, Bool, true, not, List, [], ◌∷◌, ◌++◌, drop, take, Option, Some, None}
 use Rattle.std.specs.Prelude.{if◌then◌else◌, slice_index_or, slice_set, unwrap_or}
 use Rattle.cache_table.specs.declared.state.CopyState.TheVariants as copy_states
 use Rattle.directory_table.specs.declared.state.DirState.TheVariants as dir_states

@@ -2,7 +2,6 @@
 use Rattle.std.specs.Prelude.{ℕ, List, [], ◌∷◌, codes}
 use Rattle.cache_table.specs.Name.{name_of as name_of_copy}
 use Rattle.directory_table.specs.Name.{name_of as name_of_entry}
-use Rattle.script_coverage.specs.declared.table_cell.Cell.{Cell}
 use Rattle.script_coverage.specs.declared.table_cell.Outcome.{Outcome}
 use Rattle.script_coverage.specs.declared.table_cell.Outcome.TheVariants as outcomes
 use Rattle.script_coverage.specs.declared.table_cell.TableEvent.{TableEvent}

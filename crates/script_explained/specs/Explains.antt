@@ -1,8 +1,8 @@
 -- What is written of a step where answers are explained.
-use Rattle.std.specs.Prelude.{ℕ, ◌/◌, ◌%◌, List, ◌++◌, codes, Option}
+use Rattle.std.specs.Prelude.{◌/◌, ◌%◌, ◌++◌, codes}
 use Rattle.std.specs.Io.KnownBytes.{Appends}
 use Rattle.address_map.specs.Place.{line_of as line_of_word}
-use Rattle.litmus_script.specs.Answer.{text_of_handed, text_of_issued, text_of_pumped, text_of_word}
+use Rattle.litmus_script.specs.Answer.{text_of_handed, text_of_pumped, text_of_word}
 use Rattle.litmus_script.specs.Machine.{HasAt}
 use Rattle.litmus_script.specs.Prints.{Adds}
 use Rattle.litmus_script.specs.Script.{Playing}

@@ -1,6 +1,6 @@
 -- What the statements of a script answer.
 use Rattle.std.specs.Prelude.{◌≡◌, ◌⊎◌, ℕ, ◌+◌, ◌-◌, ◌<◌, nat_lt, List, [], ◌∷◌, length, slice_index_or, if◌then◌else◌}
-use Rattle.std.specs.Prelude.{Option, Some}
+use Rattle.std.specs.Prelude.{Some}
 use Rattle.address_map.specs.declared.config.Config.{Config}
 use Rattle.litmus_script.specs.Machine.{IsNewMachine}
 use Rattle.litmus_script.specs.Play.{PlaysOne}

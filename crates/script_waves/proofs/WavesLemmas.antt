@@ -1,7 +1,7 @@
 -- The names of channels and the values of lines, in the pieces in which they are written, what is shown of a command, and
 -- runs from the beginning.
 use Rattle.std.proofs.Common.{◌≡◌, ◌≢◌, ℕ, List, [], ◌∷◌, ◌++◌, Option, Some, None, Result, Ok, Err, IsOk, OnOk, codes, drop}
-use Rattle.std.proofs.Common.{map, refl, sym, subst, ap, ap₂, append_assoc, ◌∙◌}
+use Rattle.std.proofs.Common.{refl, subst, ap, ap₂, append_assoc, ◌∙◌}
 use Rattle.std.proofs.KnownBytes.{Appends-trans}
 use Rattle.std.proofs.Output.{writes_in_calls_append, writes_in_calls_single}
 use Rattle.std.specs.Io.KnownBytes.{Appends}
@@ -10,8 +10,6 @@ use Rattle.std.specs.List.{flat_map, slice_get}
 use Rattle.address_map.specs.declared.address.LineAddr.{LineAddr}
 use Rattle.address_map.specs.declared.address.Local.{Local}
 use Rattle.address_map.specs.declared.config.Config.{Config}
-use Rattle.directory_table.specs.declared.state.DirEntry.{DirEntry}
-use Rattle.cache_table.specs.declared.state.CopyState.{CopyState}
 use Rattle.litmus_script.specs.Play.{PlaysAll, PlaysUpTo}
 use Rattle.litmus_text.specs.Command.{parts_of}
 use Rattle.litmus_text.specs.declared.command.Command.{Command}
@@ -26,10 +24,8 @@ use Rattle.slice_answer.specs.declared.answer.Delivery.TheVariants as deliveries
 use Rattle.slice_answer.specs.declared.answer.Delivery.{Delivery}
 use Rattle.slice_core.specs.Facts.{AreWaitingAt, ShowsLine}
 use Rattle.slice_core_plan.specs.Calls.{PartsView}
-use Rattle.slice_core_plan.specs.View.{View, channels_at, entry_at}
-use Rattle.slice_core_cache.specs.CoreCache.{state_of}
+use Rattle.slice_core_plan.specs.View.{View}
 use Rattle.slice_core_steps.specs.declared.line_view.LineView.{LineView}
-use Rattle.slice_queues.specs.Waiting.{line_waiting}
 use Rattle.slice_queues_message.specs.declared.channel.Channel.{Channel}
 use Rattle.slice_queues_message.specs.declared.channel.Pick.{Pick}
 

@@ -2,7 +2,7 @@
 use Rattle.std.proofs.Common.{◌≡◌, ℕ, zero, suc, ◌+◌, ◌%◌, ◌^◌, ◌<◌, ◌≤◌, Bool, false, List, [], ◌∷◌, length, map, get_or}
 use Rattle.std.proofs.Common.{None}
 use Rattle.std.proofs.Common.{arith, refl, sym, ap, ◌∙◌, subst, ⊎_elim}
-use Rattle.std.specs.Prelude.{if◌then◌else◌, nat_lt, sum_by, slice_index, Contains, IfSome, IsSome}
+use Rattle.std.specs.Prelude.{if◌then◌else◌, nat_lt, sum_by, Contains, IfSome, IsSome}
 use Rattle.std.proofs.lemmas.Bool.{cases_lt, le-ltb}
 use Rattle.std.proofs.lemmas.List.{get_or-replicate, get_or_past, length-map, length-replicate}
 use Rattle.std.proofs.lemmas.List.Elements.{All-get_or, All-nil}
@@ -17,21 +17,21 @@ use Rattle.directory_table.specs.declared.state.DirEntry.{DirEntry}
 use Rattle.mshr_file.specs.Miss.{targets_of}
 use Rattle.mshr_file.specs.declared.registers.Register.{Register}
 use Rattle.slice_answer.specs.Stats.{accepted_of, no_counts}
-use Rattle.slice_core_cache.specs.CoreCache.{CoreCacheView, IsCoreCacheQuiet, copy_of, recounted, state_of, tag_at}
+use Rattle.slice_core_cache.specs.CoreCache.{CoreCacheView, IsCoreCacheQuiet, copy_of, recounted, tag_at}
 use Rattle.slice_core_cache.specs.Kept.{IsKept}
 use Rattle.slice_core_cache.specs.Tags.{IsLeastReply}
 use Rattle.slice_core_cache.specs.declared.copy.CacheCopy.{CacheCopy}
 use Rattle.slice_core_cache.specs.declared.tags.TagState.{TagState}
 use Rattle.slice_core_cache.specs.declared.tags.TagState.TheVariants as tag_states
 use Rattle.slice_core_plan.specs.Calls.{PartsView}
-use Rattle.slice_core_plan.specs.View.{View, IsQuiet, IsShaped, cache_at, channels_at, entry_at, first_word, newest_block}
-use Rattle.slice_core_plan.specs.View.{no_cache, word_now}
+use Rattle.slice_core_plan.specs.View.{View, IsQuiet, IsShaped, cache_at, channels_at, entry_at, first_word}
+use Rattle.slice_core_plan.specs.View.{no_cache}
 use Rattle.slice_core_steps.specs.NewLog.{with_new_log, words_now}
 use Rattle.slice_core_theory.proofs.BlocksFrame.{reached_as}
 use Rattle.slice_core_theory.proofs.Kept.{Free_apart}
 use Rattle.slice_core_theory.proofs.QuietNewest.{quiet_newest}
 use Rattle.slice_core_theory.proofs.Requests.{none-contained}
-use Rattle.slice_core_theory.specs.Blocks.{AreReachedWith, HasValues, LineReachedWith}
+use Rattle.slice_core_theory.specs.Blocks.{HasValues, LineReachedWith}
 use Rattle.slice_core_theory.specs.Newest.{IsFaithful}
 use Rattle.slice_core_theory.specs.Shows.{small_machine_of}
 use Rattle.slice_core_theory.specs.SmallMachine.{IsSame, new_small_machine}

@@ -25,7 +25,6 @@ use Rattle.slice_core_cache.specs.Copy.{is_gone, no_copy}
 use Rattle.slice_core_cache.specs.Perform.{performed_in, tags_after}
 use Rattle.slice_core_cache.specs.CoreCache.{CoreCacheView, array_copy}
 use Rattle.slice_core_cache.specs.Steps as caches
-use Rattle.slice_core_cache.specs.Steps.{copy_after_ack}
 use Rattle.slice_core_cache.specs.declared.copy.CacheCopy.{CacheCopy}
 use Rattle.cache_table.specs.declared.row.CacheSends.{CacheSends}
 use Rattle.cache_table.specs.declared.state.CopyState.{CopyState}

@@ -1,7 +1,6 @@
 -- What all ports of a slice have together once it is settled.
 use Rattle.std.specs.Prelude.{◌≡◌, ℕ, ◌+◌, ◌%◌, ◌^◌, List, length, map}
 use Rattle.address_map.specs.Words.{initial_value}
-use Rattle.address_map.specs.declared.address.WordAddr.{WordAddr}
 use Rattle.address_map.specs.declared.config.Config.{Config}
 use Rattle.receipt_ledger.specs.History.{AreHeld, AreHistory, receipts_in}
 use Rattle.receipt_ledger.specs.Port.{PortView, entries_of}

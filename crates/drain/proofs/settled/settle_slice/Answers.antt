@@ -1,5 +1,4 @@
 use Rattle.std.proofs.Common.{◌≡◌, ◌∙◌, List, ap, arith, length, map, refl}
-use Rattle.address_map.specs.declared.config.Config.{Config}
 use Rattle.core_thread_system.specs.Core.{CoreView}
 use Rattle.drain.specs.Valued.{with_slice}
 use Rattle.drain.specs.declared.report.CounterValue.{CounterValue}

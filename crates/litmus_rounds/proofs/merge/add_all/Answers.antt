@@ -1,4 +1,4 @@
-use Rattle.std.proofs.Common.{ap, map, subst, sym, take, take_all, ◌∙◌, List, [], ◌∷◌, ◌++◌}
+use Rattle.std.proofs.Common.{ap, map, subst, sym, take, take_all, ◌∙◌, [], ◌∷◌, ◌++◌}
 use Rattle.std.proofs.lemmas.List.{map-append, take_more}
 use Rattle.litmus_rounds.specs.declared.part.Part.{Part}
 use Rattle.litmus_rounds.specs.Merge.{IsMergeOf}

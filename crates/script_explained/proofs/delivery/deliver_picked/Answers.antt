@@ -1,4 +1,4 @@
-use Rattle.std.proofs.Common.{◌≡◌, ap, rules, sym, ◌∙◌, Some}
+use Rattle.std.proofs.Common.{◌≡◌, rules, sym, ◌∙◌}
 use Rattle.litmus_script.proofs.CallLemmas.{delivered_next}
 use Rattle.script_explained.proofs.NextLemmas.{made_next}
 use Rattle.script_explained.specs.Delivery.{delivery_of}

@@ -1,4 +1,3 @@
-use Rattle.std.proofs.Common.{refl}
 use Rattle.script_test.proofs.JudgedLemmas.{begin_behind_next}
 use Rattle.script_test.proofs.judge.count_before.Goals as goal
 

@@ -1,4 +1,4 @@
-use Rattle.std.proofs.Common.{◌≡◌, ◌∙◌, ap, length, rules}
+use Rattle.std.proofs.Common.{◌≡◌, ◌∙◌, ap, length}
 use Rattle.script_waves.proofs.InUseLemmas.{count_leaving, count_waiting, same_use}
 use Rattle.slice_core_plan.specs.View.{cache_at}
 use Rattle.script_waves.proofs.in_use.in_use.Goals as goal

@@ -1,5 +1,4 @@
-use Rattle.std.proofs.Common.{◌≡◌, ◌+◌, ◌≤◌, drop, arith, ℕ, List}
-use Rattle.std.specs.List.{range_with_len}
+use Rattle.std.proofs.Common.{◌≡◌, ◌+◌, ◌≤◌, arith, ℕ, List}
 use Rattle.script_waves.specs.InUse.{open_of, sum_of, target_count}
 use Rattle.script_waves.proofs.InUseLemmas.{numbers_end, numbers_more}
 use Rattle.slice_core_cache.specs.CoreCache.{tag_at}

@@ -1,10 +1,6 @@
-use Rattle.std.proofs.Common.{rules, subst}
+use Rattle.std.proofs.Common.{rules}
 use Rattle.std.proofs.KnownBytes.{Appends-of_writes}
-use Rattle.std.specs.Fmt.{WritesInCalls}
-use Rattle.std.specs.Prelude.{OnOk}
 use Rattle.litmus_script.proofs.WriteLemmas.{on_written}
-use Rattle.script_waves.specs.InUse.{text_of_use}
-use Rattle.script_waves.specs.declared.in_use.InUse.{InUse}
 use Rattle.script_waves.proofs.in_use.write_core.Goals as goal
 
 pub returns-clause-written : goal.returns-clause-written

@@ -2,7 +2,6 @@ use Rattle.std.proofs.Common.{subst}
 use Rattle.std.proofs.lemmas.Result.{on_ok_weaker}
 use Rattle.std.proofs.Output.{writes_in_calls_append}
 use Rattle.std.specs.Fmt.{WritesInCalls}
-use Rattle.slice_core.specs.Facts.{ShowsLine}
 use Rattle.slice_text.proofs.Pieces.{shown_line}
 use Rattle.slice_text.proofs.shown.write_if_held.Goals as goal
 

@@ -1,4 +1,4 @@
-use Rattle.std.proofs.Common.{◌+◌, drop, sym, subst, ap}
+use Rattle.std.proofs.Common.{◌+◌, sym, subst, ap}
 use Rattle.std.proofs.lemmas.List.{drop_more}
 use Rattle.std.proofs.Output.{writes_in_calls_append}
 use Rattle.std.specs.Fmt.{WritesInCalls}

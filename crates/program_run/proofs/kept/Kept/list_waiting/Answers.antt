@@ -2,7 +2,6 @@ use Rattle.std.proofs.Common.{◌≡◌, Option, Some, length, refl, slice_get, 
 use Rattle.std.specs.Prelude.{IfSome, ◌++◌}
 use Rattle.std.proofs.lemmas.Option.{slice_get_read}
 use Rattle.slice_core_plan.specs.Calls.{PartsView}
-use Rattle.program_run.specs.Front.{HasIdleFront}
 use Rattle.program_run.specs.Run.{waiting_in}
 use Rattle.program_run.proofs.kept.Kept.list_waiting.Goals as goal
 

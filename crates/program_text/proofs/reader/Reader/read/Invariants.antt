@@ -1,4 +1,4 @@
-use Rattle.std.proofs.Common.{◌≡◌, ◌∷◌, false, List, map}
+use Rattle.std.proofs.Common.{◌≡◌, ◌∷◌, false, List}
 use Rattle.program_text.specs.Fault.{Statement}
 use Rattle.program_text.specs.Judged.{is_first}
 use Rattle.program_text.specs.Reading.{IsSoundReader, IsReading, said_by, said_in}

@@ -2,7 +2,7 @@ use Rattle.std.proofs.Common.{◌≡◌, ◌∙◌, ℕ, List, Option, ap, arith
 use Rattle.std.proofs.lemmas.Result.{err_from_is_err_and}
 use Rattle.std.specs.Prelude.{unwrap_or}
 use Rattle.script_coverage.specs.Counts.{IsTooOften, counted, had, sums}
-use Rattle.script_coverage.proofs.Sums.{had_next, summed_all, summed_more, summed_past, summed_to}
+use Rattle.script_coverage.proofs.Sums.{had_next, summed_all, summed_more, summed_past}
 use Rattle.script_coverage.proofs.coverage.Coverage.add_all.Goals as goal
 use Rattle.script_coverage.proofs.coverage.Coverage.add_all.Goals.{in-None, in-Some+in_ok-add-in-Some}
 

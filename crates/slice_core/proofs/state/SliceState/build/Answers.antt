@@ -1,5 +1,3 @@
-use Rattle.std.proofs.Common.{subst}
-use Rattle.slice_core_plan.specs.Calls.{IsNew}
 use Rattle.slice_core.proofs.state.SliceState.build.Goals as goal
 
 pub returns-clause-new : goal.returns-clause-new

@@ -154,7 +154,7 @@ class Line:
 
     def is_newest(self, words: tuple[int, ...], least: int, most: int) -> bool:
         """Whether the words may be the newest, where the log has so many entries at least and at
-        most. Time goes on from one call to the next."""
+        most. `least` and `most` never decrease from one call to the next."""
         while self.at + 1 < len(self.rows) and self.rows[self.at + 1][0] <= least:
             self.at += 1
         while self.at < len(self.rows) and self.rows[self.at][0] <= most:

@@ -78,7 +78,7 @@ impl<V: Copy, P: Policy + Drop> CacheArray<V, P> {
         line.0 & (self.sets.len() - 1)
     }
 
-    /// The value of the line, if the array holds it. It is no use of the line.
+    /// The value of the line, if the array holds it. Doesn't change the order of use.
     pub fn get(&self, line: Local) -> Option<&V>
         ensures held { option_copied result ≡ held_at self.now line }
         ensures arranged { IsArray self.now }
@@ -95,7 +95,7 @@ impl<V: Copy, P: Policy + Drop> CacheArray<V, P> {
         self.sets[self.set_index(line)].find(line)
     }
 
-    /// The value of a line that is there in its set. It is no use of the line.
+    /// The value of a line that is there in its set. Doesn't change the order of use.
     pub fn value(&self, line: Local, way: usize) -> &V
         requires { position (holds line) (slots_at self.now line) ≡ Some way }
         ensures { held_at self.now line ≡ Some result.now }
@@ -103,7 +103,7 @@ impl<V: Copy, P: Policy + Drop> CacheArray<V, P> {
         self.sets[self.set_index(line)].value(line, way)
     }
 
-    /// The value of a line that is there in its set, to be changed in its slot. It is no use of the line.
+    /// The value of a line that is there in its set, to be changed in its slot. Doesn't change the order of use.
     pub fn value_mut(&mut self, line: Local, way: usize) -> &mut V
         requires { position (holds line) (slots_at self.old line) ≡ Some way }
         ensures* lends { sem 𝓛 (LendsValue V.row P.row self.entry line result) }
@@ -114,7 +114,7 @@ impl<V: Copy, P: Policy + Drop> CacheArray<V, P> {
         set.value_mut(line, way)
     }
 
-    /// The value of a line that the array holds, to be changed in its slot. It is no use of the line.
+    /// The value of a line that the array holds, to be changed in its slot. Doesn't change the order of use.
     pub fn get_mut(&mut self, line: Local) -> &mut V
         requires { IsSome (held_at self.old line) }
         ensures* lends { sem 𝓛 (LendsValue V.row P.row self.entry line result) }
@@ -149,7 +149,7 @@ impl<V: Copy, P: Policy + Drop> CacheArray<V, P> {
         self.sets[self.set_index(line)].has_way()
     }
 
-    /// Gives a line that the array holds another value, in the same slot. It is no use of the line.
+    /// Gives a line that the array holds another value, in the same slot. Doesn't change the order of use.
     pub fn write(&mut self, line: Local, value: V)
         requires { IsSome (held_at self.old line) }
         ensures after { self.new ≡ with_slots self.old line (after_write (slots_at self.old line) line value) }

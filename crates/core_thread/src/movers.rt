@@ -4,7 +4,7 @@ use address_map::SliceId;
 use core_thread_system::{System, SystemNames};
 use mshr_file::MissFile;
 use slice_answer::DeliveredNext;
-use slice_queues_message::Class;
+use slice_queues::Class;
 use std::sync::Wait;
 use std::sync::atomic::AtomicUsize;
 use std::sync::atomic::Ordering::SeqCst;

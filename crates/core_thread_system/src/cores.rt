@@ -17,7 +17,7 @@ use mshr_file::MissFile;
 use receipt_ledger::{Answer, Ask, LearnError, Port, Receipt, SliceNames};
 use slice_answer::{DeliveredNext, Evicted, Refused};
 use slice_lock::{Question, Slice};
-use slice_queues_message::Class;
+use slice_queues::Class;
 use std::marker::Model;
 use std::sync::Wait;
 

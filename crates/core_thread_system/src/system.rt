@@ -16,7 +16,7 @@ use mshr_file::MissFile;
 use receipt_ledger::{Blanks, Port, SliceNames};
 use slice_answer::DeliveredNext;
 use slice_lock::Slice;
-use slice_queues_message::Class;
+use slice_queues::Class;
 use std::alloc::{AllocError, Global};
 use std::marker::Model;
 use std::sync::Wait;

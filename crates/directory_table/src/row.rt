@@ -92,7 +92,7 @@ pub fn dir_row(exclusive: bool, entry: &DirEntry, event: DirEvent) -> DirRow
     ensures exclusive { IfGo result (λ _ _ _ sent _. GivesOnlyCopy exclusive entry.now.state event sent) }
     ensures only { IsOnlyLawful exclusive entry.now.state entry.now.owner entry.now.sharers event result }
 {
-    // That a set fits a word is known where its bits are seen.
+    // brings into scope that the bits of a set are below 2^64
     let _ = entry.sharers.bits();
     cell(exclusive, entry.state, entry.owner, entry.sharers, event)
 }

@@ -8,7 +8,7 @@ use Rattle.litmus_script.specs.Play.{IsOfRun, PlaysAll, PlaysUpTo}
 use Rattle.litmus_script.specs.Script.{IsPlayedUpTo, IsScript, Plainly, commands_of}
 use Rattle.litmus_script.specs.declared.script.Script.{Script}
 use Rattle.litmus_text.specs.declared.fault.TextFault.{TextFault}
-use Rattle.slice_core_plan.specs.Calls.{PartsView}
+use Rattle.slice_core_spec.specs.Calls.{PartsView}
 
 module _ (built config : Config) (commands : List (ℕ × List (List ℕ))) (start : List PartsView) (first : List ℕ)
     (answers : Option (List ℕ)) where

@@ -12,7 +12,7 @@ use Rattle.litmus_text.specs.Statement.{statements_from}
 use Rattle.litmus_text.specs.declared.fault.TextFault.{TextFault}
 use Rattle.litmus_threads.specs.Trace.{heading_of}
 use Rattle.mshr_file.specs.Miss.{Bound}
-use Rattle.slice_core_plan.specs.Calls.{PartsView}
+use Rattle.slice_core_spec.specs.Calls.{PartsView}
 
 -- a slice's log as a trace, as the command `log` shows it, after a line that names the slice where there are several
 abbrev pub text_of_slice : Config → List PartsView → ℕ → List ℕ

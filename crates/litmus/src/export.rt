@@ -1,15 +1,14 @@
 ghost use Rattle.std.specs.Prelude.{◌≡◌, ◌<◌, IfErr, IfOk, OnOk};
 ghost use Rattle.std.specs.Io.KnownBytes.{Appends};
 ghost use Rattle.litmus_command_line.specs.CommandLine.{number_of};
-ghost use Rattle.protocol_murphi.specs.Model.{model_of};
-ghost use Rattle.protocol_smt.specs.Queries.{queries_of};
+ghost use Rattle.protocol_models.specs.Model.{model_of};
+ghost use Rattle.protocol_models.specs.Queries.{queries_of};
 
 use changed_tables::Tables;
 use litmus_command_line::ModelCores;
 use litmus_script::TextWriter;
 use litmus_text::TextFault;
-use protocol_murphi::write_model;
-use protocol_smt::write_queries;
+use protocol_models::{write_model, write_queries};
 use std::io::Write;
 
 /// Prints the protocol of a line under these tables as a model of so many cores, and with what can be completed once no

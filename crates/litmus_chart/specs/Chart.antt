@@ -7,8 +7,8 @@ use Rattle.litmus_chart.specs.declared.arrow.Fate.TheVariants as fates
 use Rattle.litmus_chart.specs.declared.arrow.Participant.{Participant}
 use Rattle.litmus_chart.specs.declared.arrow.Participant.TheVariants.{Directory, Core}
 use Rattle.slice_answer.specs.Text.{text_of_cell}
-use Rattle.slice_queues_message.specs.declared.channel.Pick.{Pick}
-use Rattle.slice_queues_message.specs.declared.channel.Pick.TheVariants as picks
+use Rattle.slice_queues.specs.declared.channel.Pick.{Pick}
+use Rattle.slice_queues.specs.declared.channel.Pick.TheVariants as picks
 use Rattle.slice_text.specs.Message.{text_of_message}
 
 -- the name under which a participant is declared

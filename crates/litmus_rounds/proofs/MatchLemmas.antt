@@ -8,7 +8,7 @@ use Rattle.address_map.specs.declared.config.Config.{Config}
 use Rattle.litmus_test.specs.NamedRequest.{IsOf}
 use Rattle.litmus_test.specs.declared.outcomes.named_request.NamedRequest.{NamedRequest}
 use Rattle.litmus_script.specs.Machine.{IsShownWord, log_at}
-use Rattle.slice_core_plan.specs.Calls.{PartsView}
+use Rattle.slice_core_spec.specs.Calls.{PartsView}
 use Rattle.litmus_rounds.specs.Outcome.{AddsMatch, HasReply, HasWord, LacksReply, Match}
 
 pub match_push : {X : Type 0} (P : X → ℕ → Type 0) (xs : List X) (values : List ℕ) (x : X) (value : ℕ)

@@ -8,7 +8,7 @@ use Rattle.litmus_test.specs.NamedRequest.{IsOf, named_request_of}
 use Rattle.litmus_test.specs.declared.outcomes.named_request.NamedRequest.{NamedRequest}
 use Rattle.litmus_script.specs.Machine.{IsQuietWord, log_at}
 use Rattle.litmus_test.specs.declared.test.LitmusTest.{LitmusTest}
-use Rattle.slice_core_plan.specs.Calls.{PartsView}
+use Rattle.slice_core_spec.specs.Calls.{PartsView}
 use Rattle.slice_log.specs.declared.entry.Entry.{Entry}
 
 -- the request is an entry in the log of its slice, and this is its reply

@@ -19,7 +19,7 @@ use Rattle.litmus_walk.specs.declared.round.End.TheVariants as ends
 use Rattle.mshr_file.specs.Miss.{Bound}
 use Rattle.litmus_test.specs.Form.{text_of_gave_up, text_of_outcomes, text_of_stuck}
 use Rattle.litmus_test.specs.declared.outcomes.form.OutcomeForm.{OutcomeForm}
-use Rattle.slice_core_plan.specs.View.{IsQuiet}
+use Rattle.slice_core_spec.specs.View.{IsQuiet}
 
 -- the values are the outcome of the walk that the seed draws on a new machine of the test, with `most` moves at most, in
 -- which each thread has done all its steps, and after which all slices are quiet

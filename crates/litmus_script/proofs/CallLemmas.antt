@@ -11,9 +11,9 @@ use Rattle.slice_answer.specs.declared.answer.Evicted.{Evicted}
 use Rattle.slice_answer.specs.declared.answer.Issue.{Issue}
 use Rattle.slice_answer.specs.declared.answer.Refused.{Refused}
 use Rattle.slice_log.specs.declared.entry.Numbered.{Numbered}
-use Rattle.slice_core_plan.specs.Calls.{PartsView, AfterDeliverNext, AfterDelivery, AfterEvict, AfterHand, AfterIssue}
-use Rattle.slice_queues_message.specs.declared.channel.Class.{Class}
-use Rattle.slice_queues_message.specs.declared.channel.Pick.{Pick}
+use Rattle.slice_core_spec.specs.Calls.{PartsView, AfterDeliverNext, AfterDelivery, AfterEvict, AfterHand, AfterIssue}
+use Rattle.slice_queues.specs.declared.channel.Class.{Class}
+use Rattle.slice_queues.specs.declared.channel.Pick.{Pick}
 use Rattle.litmus_script.specs.Machine.{Answers}
 use Rattle.slice_answer.specs.declared.answer.Delivery.{Delivery}
 

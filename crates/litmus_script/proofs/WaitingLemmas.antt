@@ -14,15 +14,15 @@ use Rattle.litmus_text.specs.declared.command.Command.TheVariants.{Deliver}
 use Rattle.litmus_text.specs.Line.{text_of_parts}
 use Rattle.slice_core.specs.Facts.{front_at}
 use Rattle.slice_answer.specs.declared.answer.Cell.{Cell}
-use Rattle.slice_core_plan.specs.Calls.{PartsView}
-use Rattle.slice_core_plan.specs.Plan.{planned_at}
-use Rattle.slice_core_plan.specs.View.{View}
-use Rattle.slice_queues_message.specs.Pick.{channel_of}
-use Rattle.slice_queues_message.specs.declared.channel.Pick.{Pick}
-use Rattle.slice_queues_message.specs.declared.message.Message.{Message}
+use Rattle.slice_core_spec.specs.Calls.{PartsView}
+use Rattle.slice_core_spec.specs.Plan.{planned_at}
+use Rattle.slice_core_spec.specs.View.{View}
+use Rattle.slice_queues.specs.Pick.{channel_of}
+use Rattle.slice_queues.specs.declared.channel.Pick.{Pick}
+use Rattle.slice_queues.specs.declared.message.Message.{Message}
 use Rattle.slice_answer.specs.declared.answer.Delivery.TheVariants as deliveries
 use Rattle.slice_answer.specs.declared.answer.Delivery.{Delivery}
-use Rattle.slice_core_plan.specs.declared.transition.Transition.{Transition}
+use Rattle.slice_core_spec.specs.declared.transition.Transition.{Transition}
 
 -- the lines of a slice, and then those of the slices after it
 pub lines_of_slices : (state : PartsView) (more : List PartsView) → lines_of (in_flight (state ∷ more)) ≡

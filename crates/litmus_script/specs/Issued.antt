@@ -9,7 +9,7 @@ use Rattle.slice_answer.specs.declared.answer.Refused.{Refused}
 use Rattle.slice_answer.specs.declared.answer.Refused.TheVariants as refusals
 use Rattle.slice_core.specs.declared.run.Call.TheVariants as slice_calls
 use Rattle.slice_core.specs.declared.run.CallAnswer.TheVariants as call_answers
-use Rattle.slice_core_plan.specs.Calls.{PartsView}
+use Rattle.slice_core_spec.specs.Calls.{PartsView}
 use Rattle.slice_log.specs.declared.entry.Entry.{Entry}
 use Rattle.litmus_script.specs.Machine.{Answers, OneSlice}
 use Rattle.litmus_script.specs.declared.answers.Issued.{Issued}

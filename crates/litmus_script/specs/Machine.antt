@@ -12,15 +12,15 @@ use Rattle.slice_core.specs.Facts.{AreWaitingAt, ShowsLine, front_at}
 use Rattle.slice_core.specs.Run.{AfterCall}
 use Rattle.slice_core.specs.declared.run.Call.{Call}
 use Rattle.slice_core.specs.declared.run.CallAnswer.{CallAnswer}
-use Rattle.slice_core_plan.specs.Calls.{PartsView, IsNew}
-use Rattle.slice_core_plan.specs.View.{View, IsQuiet}
-use Rattle.slice_core_steps.specs.declared.line_view.LineView.{LineView}
+use Rattle.slice_core_spec.specs.Calls.{PartsView, IsNew}
+use Rattle.slice_core_spec.specs.View.{View, IsQuiet}
+use Rattle.slice_core_exec.specs.declared.line_view.LineView.{LineView}
 use Rattle.slice_log.specs.Log.{initially, value}
 use Rattle.slice_log.specs.declared.entry.Entry.{Entry}
-use Rattle.slice_queues_message.specs.Pick.{channel_of, line_of}
-use Rattle.slice_queues_message.specs.declared.channel.Channel.{Channel}
-use Rattle.slice_queues_message.specs.declared.channel.Pick.{Pick}
-use Rattle.slice_queues_message.specs.declared.message.Message.{Message}
+use Rattle.slice_queues.specs.Pick.{channel_of, line_of}
+use Rattle.slice_queues.specs.declared.channel.Channel.{Channel}
+use Rattle.slice_queues.specs.declared.channel.Pick.{Pick}
+use Rattle.slice_queues.specs.declared.message.Message.{Message}
 
 -- the state is of this slice, with the configured cores, its share of the lines, and the configured setting
 pub record IsSliceOf (config : Config) (id : ℕ) (p : PartsView) : Type 0 where

@@ -22,10 +22,10 @@ use Rattle.slice_answer.specs.declared.answer.Delivered.{Delivered}
 use Rattle.slice_answer.specs.declared.answer.Evicted.{Evicted}
 use Rattle.slice_core.specs.declared.run.Call.TheVariants as slice_calls
 use Rattle.slice_core.specs.declared.run.CallAnswer.TheVariants as call_answers
-use Rattle.slice_core_plan.specs.Calls.{PartsView}
-use Rattle.slice_core_steps.specs.declared.line_view.LineView.{LineView}
+use Rattle.slice_core_spec.specs.Calls.{PartsView}
+use Rattle.slice_core_exec.specs.declared.line_view.LineView.{LineView}
 use Rattle.slice_log.specs.declared.entry.Numbered.{Numbered}
-use Rattle.slice_queues_message.specs.Pick.{line_of}
+use Rattle.slice_queues.specs.Pick.{line_of}
 use Rattle.slice_text.specs.Line.{text_of_line}
 use Rattle.slice_text.specs.Shown.{text_of_machine}
 use Rattle.stats_report.specs.Report.{report_of}

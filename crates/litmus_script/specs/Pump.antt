@@ -4,8 +4,8 @@ use Rattle.std.specs.Prelude.{if◌then◌else◌, Option}
 use Rattle.std.specs.List.{list_all, list_any}
 use Rattle.slice_core.specs.declared.run.Call.TheVariants as slice_calls
 use Rattle.slice_core.specs.declared.run.CallAnswer.TheVariants as call_answers
-use Rattle.slice_core_plan.specs.Calls.{PartsView}
-use Rattle.slice_queues_message.specs.declared.channel.Class.TheVariants as classes
+use Rattle.slice_core_spec.specs.Calls.{PartsView}
+use Rattle.slice_queues.specs.declared.channel.Class.TheVariants as classes
 use Rattle.litmus_script.specs.Machine.{IsAnswered}
 use Rattle.litmus_script.specs.declared.answers.Pumped.{Pumped}
 use Rattle.litmus_script.specs.declared.answers.Pumped.TheVariants as pumps
@@ -13,7 +13,7 @@ use Rattle.litmus_script.specs.declared.pump.Round.{Round}
 use Rattle.litmus_script.specs.declared.pump.Round.TheVariants as rounds
 use Rattle.slice_answer.specs.declared.answer.Delivery.TheVariants as deliveries
 use Rattle.slice_answer.specs.declared.answer.Delivery.{Delivery}
-use Rattle.slice_queues_message.specs.declared.channel.Pick.{Pick}
+use Rattle.slice_queues.specs.declared.channel.Pick.{Pick}
 
 -- the slice was asked for a delivery of any class, and answered this
 abbrev pub IsDelivered : ℕ → Delivery Pick → List PartsView → List PartsView → Type 0

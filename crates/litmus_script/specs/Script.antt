@@ -12,7 +12,7 @@ use Rattle.litmus_text.specs.declared.fault.TextFault.TheVariants as text_faults
 use Rattle.litmus_text.specs.declared.settings.Settings.{Settings}
 use Rattle.litmus_text.specs.declared.statement.Statement.{Statement}
 use Rattle.mshr_file.specs.Miss.{Bound}
-use Rattle.slice_core_plan.specs.Calls.{PartsView}
+use Rattle.slice_core_spec.specs.Calls.{PartsView}
 use Rattle.litmus_script.specs.Fault.{BeginsAsConfig}
 use Rattle.litmus_script.specs.Machine.{IsNewMachine}
 use Rattle.mshr_file.specs.Miss.{bound_of}

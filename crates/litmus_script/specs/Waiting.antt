@@ -10,20 +10,20 @@ use Rattle.litmus_text.specs.declared.command.Command.TheVariants as commands
 use Rattle.litmus_text.specs.Line.{text_of_parts}
 use Rattle.slice_core.specs.Facts.{front_at}
 use Rattle.slice_answer.specs.Text.{text_of_cell}
-use Rattle.slice_core_plan.specs.Calls.{PartsView}
-use Rattle.slice_core_plan.specs.Plan.{planned_at}
-use Rattle.slice_core_plan.specs.View.{View, entry_at, cache_at}
+use Rattle.slice_core_spec.specs.Calls.{PartsView}
+use Rattle.slice_core_spec.specs.Plan.{planned_at}
+use Rattle.slice_core_spec.specs.View.{View, entry_at, cache_at}
 use Rattle.slice_core_cache.specs.CoreCache.{state_of}
 use Rattle.slice_queues.specs.Waiting.{lines_waiting}
-use Rattle.slice_queues_message.specs.Pick.{channel_of, line_of}
-use Rattle.slice_queues_message.specs.declared.channel.Channel.{Channel}
-use Rattle.slice_queues_message.specs.declared.channel.Channel.TheVariants as channels
-use Rattle.slice_queues_message.specs.declared.channel.Pick.{Pick}
-use Rattle.slice_queues_message.specs.declared.message.Message.{Message}
+use Rattle.slice_queues.specs.Pick.{channel_of, line_of}
+use Rattle.slice_queues.specs.declared.channel.Channel.{Channel}
+use Rattle.slice_queues.specs.declared.channel.Channel.TheVariants as channels
+use Rattle.slice_queues.specs.declared.channel.Pick.{Pick}
+use Rattle.slice_queues.specs.declared.message.Message.{Message}
 use Rattle.slice_text.specs.Message.{text_of_message}
 use Rattle.slice_answer.specs.declared.answer.Delivery.TheVariants as deliveries
 use Rattle.slice_answer.specs.declared.answer.Delivery.{Delivery}
-use Rattle.slice_core_plan.specs.declared.transition.Transition.{Transition}
+use Rattle.slice_core_spec.specs.declared.transition.Transition.{Transition}
 
 -- in which state the directory's entry, or the core's copy, is that a channel's messages come to
 abbrev pub receiver_state : View → Local → Channel → List ℕ

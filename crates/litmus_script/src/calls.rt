@@ -7,8 +7,8 @@ ghost use Rattle.mshr_file.specs.Either.{either_bound, either_misses};
 ghost use Rattle.slice_core.specs.Facts.{IsSameSlice, ShowsLine};
 ghost use Rattle.slice_core.specs.declared.run.Call.TheVariants as slice_calls;
 ghost use Rattle.slice_core.specs.declared.run.CallAnswer.TheVariants as call_answers;
-ghost use Rattle.slice_core_plan.specs.Calls.{IsNew};
-ghost use Rattle.slice_queues_message.specs.declared.channel.Class.TheVariants as classes;
+ghost use Rattle.slice_core_spec.specs.Calls.{IsNew};
+ghost use Rattle.slice_queues.specs.declared.channel.Class.TheVariants as classes;
 ghost use Rattle.litmus_script.specs.Issued.{Issues, LacksMemory};
 ghost use Rattle.litmus_script.specs.Machine.{Answers, IsSliceOf, ShowsWord};
 

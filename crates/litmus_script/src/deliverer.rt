@@ -2,7 +2,7 @@ ghost use Rattle.std.specs.Prelude.{◌≡◌, ℕ, ◌<◌, List, Option, IfErr
 ghost use Rattle.address_map.specs.declared.config.Config.{Config};
 ghost use Rattle.litmus_script.specs.Play.{IsOfRun};
 ghost use Rattle.slice_answer.specs.declared.answer.Delivery.{Delivery};
-ghost use Rattle.slice_queues_message.specs.declared.channel.Pick.{Pick};
+ghost use Rattle.slice_queues.specs.declared.channel.Pick.{Pick};
 
 use litmus_text::TextFault;
 use slice_core::DeliveredNext;

@@ -7,8 +7,8 @@ ghost use Rattle.mshr_file.specs.Either.{either_bound, either_misses};
 ghost use Rattle.mshr_file.specs.Miss.{bound_of};
 ghost use Rattle.slice_core.specs.declared.run.Call.TheVariants as slice_calls;
 ghost use Rattle.slice_core.specs.declared.run.CallAnswer.TheVariants as call_answers;
-ghost use Rattle.slice_core_plan.specs.View.{IsQuiet};
-ghost use Rattle.slice_queues_message.specs.Pick.{line_of};
+ghost use Rattle.slice_core_spec.specs.View.{IsQuiet};
+ghost use Rattle.slice_queues.specs.Pick.{line_of};
 ghost use Rattle.litmus_script.specs.Issued.{IsIssued, IsOutOfMemory};
 ghost use Rattle.litmus_script.specs.Machine.{AreWaiting, HasNoLine, IsAnswered, IsFront, IsLineView, IsMachine};
 ghost use Rattle.litmus_script.specs.Machine.{IsNewMachine};
@@ -200,7 +200,7 @@ impl Machine {
         calls::word(&self.slices[self.slice_of(word.line())], word)
     }
 
-    /// What its slice has of a line of the memory, of which there is none without a slice.
+    /// What the slice of this line has of it. Each line has a slice.
     pub(crate) fn line_now(&self, line: LineAddr) -> LineView
         requires { HasLine self.now.config line }
         ensures { IsShownLine self.now.slices.items (line.0 % self.now.config.slices) line result }

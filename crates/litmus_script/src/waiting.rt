@@ -12,8 +12,8 @@ ghost use Rattle.litmus_text.specs.declared.command.Command.TheVariants as comma
 ghost use Rattle.litmus_text.specs.declared.look.Look.TheVariants as looks;
 ghost use Rattle.litmus_text.specs.declared.look.MachineLook.TheVariants as machine_looks;
 ghost use Rattle.slice_core_cache.specs.CoreCache.{state_of};
-ghost use Rattle.slice_core_plan.specs.View.{View, cache_at};
-ghost use Rattle.slice_queues_message.specs.Pick.{channel_of, line_of};
+ghost use Rattle.slice_core_spec.specs.View.{View, cache_at};
+ghost use Rattle.slice_queues.specs.Pick.{channel_of, line_of};
 
 use super::answers::{TextWriter, written};
 use super::machine::Machine;

@@ -6,8 +6,8 @@ use Rattle.std.proofs.lemmas.Grind.{common_steps}
 use Rattle.address_map.specs.declared.address.CoreId.{CoreId}
 use Rattle.address_map.specs.declared.address.LineAddr.{LineAddr}
 use Rattle.address_map.specs.declared.config.Config.{Config}
-use Rattle.slice_queues_message.specs.declared.channel.Pick.{Pick}
-use Rattle.slice_queues_message.specs.declared.channel.Pick.TheVariants as picks
+use Rattle.slice_queues.specs.declared.channel.Pick.{Pick}
+use Rattle.slice_queues.specs.declared.channel.Pick.TheVariants as picks
 use Rattle.litmus_text.specs.declared.channel.Class.{Class}
 use Rattle.litmus_text.specs.declared.channel.Class.TheVariants as classes
 use Rattle.litmus_text.specs.Class.{name_of_class}

@@ -5,8 +5,8 @@ use Rattle.address_map.specs.declared.address.CoreId.{CoreId}
 use Rattle.address_map.specs.declared.address.LineAddr.{LineAddr}
 use Rattle.address_map.specs.declared.request.Op.{Op}
 use Rattle.address_map.specs.declared.request.Op.TheVariants as ops
-use Rattle.slice_queues_message.specs.declared.channel.Pick.{Pick}
-use Rattle.slice_queues_message.specs.declared.channel.Pick.TheVariants as picks
+use Rattle.slice_queues.specs.declared.channel.Pick.{Pick}
+use Rattle.slice_queues.specs.declared.channel.Pick.TheVariants as picks
 use Rattle.litmus_text.specs.declared.command.Command.{Command}
 use Rattle.litmus_text.specs.declared.command.Command.TheVariants as commands
 use Rattle.litmus_text.specs.declared.fault.LineFault.{LineFault}

@@ -9,7 +9,7 @@ use super::number::{core_in, line_in, one_number, three_numbers, two_numbers};
 use super::slot::Slot;
 use super::table::value_named;
 use address_map::{Checked, CoreId, LineAddr};
-use slice_queues_message::Pick;
+use slice_queues::Pick;
 
 /// The class of the messages in a channel.
 #[derive(Clone, Copy)]

@@ -1,6 +1,6 @@
 use super::look::Look;
 use address_map::{CoreId, LineAddr, Request, SliceId};
-use slice_queues_message::Pick;
+use slice_queues::Pick;
 
 /// What one line of a script asks of the machine.
 #[derive(Clone, Copy, Debug, PartialEq, Eq)]

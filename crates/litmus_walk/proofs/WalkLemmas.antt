@@ -3,7 +3,7 @@ use Rattle.std.proofs.Common.{List, [], ◌∷◌, ◌++◌, append_assoc, ap, r
 use Rattle.std.proofs.lemmas.List.{append-nil}
 use Rattle.address_map.specs.declared.config.Config.{Config}
 use Rattle.litmus_test.specs.declared.test.Thread.{Thread}
-use Rattle.slice_core_plan.specs.Calls.{PartsView}
+use Rattle.slice_core_spec.specs.Calls.{PartsView}
 use Rattle.litmus_walk.specs.Walk.{AreCallsOf, IsCallOf, Makes, Plays, WalkView, Walks}
 use Rattle.litmus_walk.specs.declared.recorded.Made.{Made}
 

@@ -28,13 +28,13 @@ use Rattle.litmus_walk.specs.declared.walker.Reply.{Reply}
 use Rattle.slice_core.specs.declared.run.Call.TheVariants as slice_calls
 use Rattle.slice_core.specs.declared.run.CallAnswer.TheVariants as call_answers
 use Rattle.slice_log.specs.declared.entry.Entry.{Entry}
-use Rattle.slice_core_plan.specs.Calls.{PartsView}
-use Rattle.slice_core_plan.specs.View.{View, channels_at}
+use Rattle.slice_core_spec.specs.Calls.{PartsView}
+use Rattle.slice_core_spec.specs.View.{View, channels_at}
 use Rattle.slice_log.specs.declared.entry.Numbered.{Numbered}
 use Rattle.slice_queues.specs.Waiting.{line_waiting}
-use Rattle.slice_queues_message.specs.Pick.{line_of, pick_at}
-use Rattle.slice_queues_message.specs.declared.channel.Channel.{Channel}
-use Rattle.slice_queues_message.specs.declared.channel.Pick.{Pick}
+use Rattle.slice_queues.specs.Pick.{line_of, pick_at}
+use Rattle.slice_queues.specs.declared.channel.Channel.{Channel}
+use Rattle.slice_queues.specs.declared.channel.Pick.{Pick}
 
 -- a walk on its way: the machine with the calls that were made of it, where each thread is, and the replies that wait
 pub record WalkState : Type 0 where

@@ -14,7 +14,7 @@ use Rattle.litmus_walk.specs.declared.round.End.{End}
 use Rattle.litmus_walk.specs.declared.round.End.TheVariants as ends
 use Rattle.litmus_walk.specs.Walk.{WalkView, IsWalkOf}
 use Rattle.mshr_file.specs.Miss.{Bound}
-use Rattle.slice_core_plan.specs.View.{IsQuiet}
+use Rattle.slice_core_spec.specs.View.{IsQuiet}
 use Rattle.litmus_text.specs.Line.{line_of_parts}
 use Rattle.litmus_text.specs.SettingsLines.{lines_of_settings, text_of_lines}
 

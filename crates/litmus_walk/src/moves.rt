@@ -1,7 +1,7 @@
 ghost use Rattle.std.specs.Prelude.{◌≡◌, ◌++◌, ◌∷◌, [], IfOk, OnOk, length, map};
 ghost use Rattle.std.specs.List.{flat_map, range_with_len};
 ghost use Rattle.std.specs.Option.{option_map};
-ghost use Rattle.slice_queues_message.specs.Pick.{pick_at};
+ghost use Rattle.slice_queues.specs.Pick.{pick_at};
 ghost use Rattle.litmus_walk.specs.Drawn.{lines_of, with_line, with_lines};
 ghost use Rattle.litmus_walk.specs.Moves.{can_step, deliveries_at, may_step, moves_of, state_of, steps_in};
 

@@ -9,7 +9,7 @@ ghost use Rattle.slice_core.specs.declared.run.Call.TheVariants as slice_calls;
 ghost use Rattle.slice_core.specs.declared.run.CallAnswer.TheVariants as call_answers;
 ghost use Rattle.litmus_text.specs.Command.{HasCore};
 ghost use Rattle.litmus_text.specs.declared.command.Command.TheVariants as commands;
-ghost use Rattle.slice_core_plan.specs.View.{IsQuiet};
+ghost use Rattle.slice_core_spec.specs.View.{IsQuiet};
 ghost use Rattle.litmus_walk.specs.Done.{is_done};
 ghost use Rattle.litmus_walk.specs.Moves.{waiting_at};
 ghost use Rattle.litmus_walk.specs.Walk.{Makes, made_of};

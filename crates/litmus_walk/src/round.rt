@@ -1,7 +1,7 @@
 ghost use Rattle.std.specs.Prelude.{◌≡◌, [], All, IfNone, IfOk, IfSome, OnOk, Some};
 ghost use Rattle.mshr_file.specs.Miss.{bound_of};
 ghost use Rattle.rand_xoshiro.specs.Xoshiro256.{plus_plus};
-ghost use Rattle.slice_core_plan.specs.View.{IsQuiet};
+ghost use Rattle.slice_core_spec.specs.View.{IsQuiet};
 ghost use Rattle.litmus_walk.specs.Done.{AreDone, GoesOn, steps_of};
 ghost use Rattle.litmus_walk.specs.Drawn.{Draws, IsDrawn, IsEnd, drawn_move};
 ghost use Rattle.litmus_walk.specs.Moves.{state_of};

@@ -3,7 +3,7 @@ ghost use Rattle.std.specs.Prelude.{drop, filter_map, length, option_and_then, r
 ghost use Rattle.litmus_test.specs.declared.test.Action.TheVariants as actions;
 ghost use Rattle.litmus_test.specs.declared.test.Thread.{Thread};
 ghost use Rattle.litmus_text.specs.Command.{HasCore};
-ghost use Rattle.slice_core_plan.specs.View.{IsQuiet};
+ghost use Rattle.slice_core_spec.specs.View.{IsQuiet};
 ghost use Rattle.litmus_walk.specs.Done.{AreAtEnd, GoesOn, steps_of};
 ghost use Rattle.litmus_walk.specs.Drawn.{first_place};
 ghost use Rattle.litmus_walk.specs.Moves.{Accesses, Delivers, Goes, Hands, Steps, with_change_at, free_tag, gone_behind, reply_to};

@@ -81,7 +81,7 @@ fn read_words<R: Env + AllocGlobal>(rt: &R) -> io::Result<Vec<String>> {
     env::args(rt).and_then(|words| Ok(words.collect(rt.alloc())?))
 }
 
-// Whatever is owned here is handed on borrowed, so that each function has one thing to drop.
+// Each function owns one value at most, and lends it to those that it calls: proof time grows with what is live at an exit.
 fn run_words<R>(rt: &R, people: People, words: &[String]) -> u8
 where
     R: Env + Files + Input + AllocGlobal + Print + Eprint + Threads + Wait + Sync,

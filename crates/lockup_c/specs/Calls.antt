@@ -28,15 +28,15 @@ use Rattle.slice_answer.specs.declared.answer.Delivery.{Delivery}
 use Rattle.slice_answer.specs.declared.answer.Evicted.{Evicted}
 use Rattle.slice_core.specs.declared.run.Call.TheVariants as slice_calls
 use Rattle.slice_core.specs.declared.run.CallAnswer.TheVariants as call_answers
-use Rattle.slice_core_plan.specs.Calls.{next_pick}
-use Rattle.slice_core_plan.specs.Decision.{decision_of}
-use Rattle.slice_core_plan.specs.Plan.{planned_at}
-use Rattle.slice_core_plan.specs.declared.decision.Decision.{Decision}
-use Rattle.slice_core_plan.specs.declared.transition.Transition.{Transition}
+use Rattle.slice_core_spec.specs.Calls.{next_pick}
+use Rattle.slice_core_spec.specs.Decision.{decision_of}
+use Rattle.slice_core_spec.specs.Plan.{planned_at}
+use Rattle.slice_core_spec.specs.declared.decision.Decision.{Decision}
+use Rattle.slice_core_spec.specs.declared.transition.Transition.{Transition}
 use Rattle.slice_log.specs.declared.entry.Numbered.{Numbered}
-use Rattle.slice_queues_message.specs.Pick.{line_of}
-use Rattle.slice_queues_message.specs.declared.channel.Class.{Class}
-use Rattle.slice_queues_message.specs.declared.channel.Pick.{Pick}
+use Rattle.slice_queues.specs.Pick.{line_of}
+use Rattle.slice_queues.specs.declared.channel.Class.{Class}
+use Rattle.slice_queues.specs.declared.channel.Pick.{Pick}
 
 -- ---- handles
 

@@ -9,9 +9,9 @@ use Rattle.lockup_c.specs.Named.{copy_named, file_named}
 use Rattle.lockup_c.specs.declared.held.Held.{Held}
 use Rattle.simulator.specs.Simulator.{config_of, slices_of}
 use Rattle.simulator.specs.declared.simulator.Simulator.{Simulator}
-use Rattle.slice_core_steps.specs.CoreLines.{lines_of_core}
-use Rattle.slice_core_steps.specs.declared.core_lines.CoreLines.{CoreLines}
-use Rattle.slice_core_steps.specs.declared.core_lines.CoreLines.TheVariants as core_lines
+use Rattle.slice_core_exec.specs.CoreLines.{lines_of_core}
+use Rattle.slice_core_exec.specs.declared.core_lines.CoreLines.{CoreLines}
+use Rattle.slice_core_exec.specs.declared.core_lines.CoreLines.TheVariants as core_lines
 
 -- these lines the core has there, in the slice
 abbrev pub AreLines : ℕ → CoreId → CoreLines → List LineAddr → Simulator → Type 0

@@ -17,8 +17,8 @@ use Rattle.simulator.specs.Simulator.{config_of, slices_of}
 use Rattle.simulator.specs.declared.simulator.Simulator.{Simulator}
 use Rattle.slice_core.specs.Facts.{copy_at}
 use Rattle.slice_core_cache.specs.declared.copy.CacheCopy.{CacheCopy}
-use Rattle.slice_core_plan.specs.View.{IsQuiet}
-use Rattle.slice_core_steps.specs.declared.line_view.LineView.{LineView}
+use Rattle.slice_core_spec.specs.View.{IsQuiet}
+use Rattle.slice_core_exec.specs.declared.line_view.LineView.{LineView}
 use Rattle.slice_log.specs.declared.entry.Entry.{Entry}
 
 -- ---- a core's copy of a line

@@ -12,16 +12,16 @@ use Rattle.lockup_c.specs.declared.structs.MessageNumbers.{MessageNumbers}
 use Rattle.simulator.specs.Looks.{IsCountOf, message_at, waiting_at}
 use Rattle.simulator.specs.Simulator.{config_of, slices_of}
 use Rattle.simulator.specs.declared.simulator.Simulator.{Simulator}
-use Rattle.slice_queues_message.specs.Pick.{line_of}
-use Rattle.slice_queues_message.specs.declared.channel.Pick.{Pick}
-use Rattle.slice_queues_message.specs.declared.message.DataMessage.{DataMessage}
-use Rattle.slice_queues_message.specs.declared.message.DataMessage.TheVariants as data_messages
-use Rattle.slice_queues_message.specs.declared.message.ForwardedMessage.{ForwardedMessage}
-use Rattle.slice_queues_message.specs.declared.message.ForwardedMessage.TheVariants as forwarded_messages
-use Rattle.slice_queues_message.specs.declared.message.Message.{Message}
-use Rattle.slice_queues_message.specs.declared.message.Message.TheVariants as messages
-use Rattle.slice_queues_message.specs.declared.message.RequestMessage.{RequestMessage}
-use Rattle.slice_queues_message.specs.declared.message.RequestMessage.TheVariants as request_messages
+use Rattle.slice_queues.specs.Pick.{line_of}
+use Rattle.slice_queues.specs.declared.channel.Pick.{Pick}
+use Rattle.slice_queues.specs.declared.message.DataMessage.{DataMessage}
+use Rattle.slice_queues.specs.declared.message.DataMessage.TheVariants as data_messages
+use Rattle.slice_queues.specs.declared.message.ForwardedMessage.{ForwardedMessage}
+use Rattle.slice_queues.specs.declared.message.ForwardedMessage.TheVariants as forwarded_messages
+use Rattle.slice_queues.specs.declared.message.Message.{Message}
+use Rattle.slice_queues.specs.declared.message.Message.TheVariants as messages
+use Rattle.slice_queues.specs.declared.message.RequestMessage.{RequestMessage}
+use Rattle.slice_queues.specs.declared.message.RequestMessage.TheVariants as request_messages
 
 abbrev pub no_message : MessageNumbers
 no_message =

@@ -8,10 +8,10 @@ use Rattle.address_map.specs.declared.config.Config.{Config}
 use Rattle.address_map.specs.declared.request.Op.{Op}
 use Rattle.address_map.specs.declared.request.Op.TheVariants as ops
 use Rattle.address_map.specs.declared.request.Request.{Request}
-use Rattle.slice_queues_message.specs.declared.channel.Class.{Class}
-use Rattle.slice_queues_message.specs.declared.channel.Class.TheVariants as classes
-use Rattle.slice_queues_message.specs.declared.channel.Pick.{Pick}
-use Rattle.slice_queues_message.specs.declared.channel.Pick.TheVariants as picks
+use Rattle.slice_queues.specs.declared.channel.Class.{Class}
+use Rattle.slice_queues.specs.declared.channel.Class.TheVariants as classes
+use Rattle.slice_queues.specs.declared.channel.Pick.{Pick}
+use Rattle.slice_queues.specs.declared.channel.Pick.TheVariants as picks
 
 -- a core and a line of the machine
 abbrev pub copy_named : Config → ℕ → ℕ → Option (CoreId × LineAddr)

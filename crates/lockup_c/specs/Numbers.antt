@@ -15,13 +15,13 @@ use Rattle.slice_core_cache.specs.declared.access.AccessKind.{AccessKind}
 use Rattle.slice_core_cache.specs.declared.access.AccessKind.TheVariants as access_kinds
 use Rattle.slice_core_cache.specs.declared.access.Placement.{Placement}
 use Rattle.slice_core_cache.specs.declared.access.Placement.TheVariants as placements
-use Rattle.slice_core_plan.specs.declared.decision.Decision.{Decision}
-use Rattle.slice_core_plan.specs.declared.decision.Decision.TheVariants as decisions
-use Rattle.slice_core_plan.specs.declared.transition.Transition.{Transition}
-use Rattle.slice_core_plan.specs.declared.transition.Transition.TheVariants as transitions
+use Rattle.slice_core_spec.specs.declared.decision.Decision.{Decision}
+use Rattle.slice_core_spec.specs.declared.decision.Decision.TheVariants as decisions
+use Rattle.slice_core_spec.specs.declared.transition.Transition.{Transition}
+use Rattle.slice_core_spec.specs.declared.transition.Transition.TheVariants as transitions
 use Rattle.slice_log.specs.declared.entry.Numbered.{Numbered}
-use Rattle.slice_queues_message.specs.Pick.{line_of}
-use Rattle.slice_queues_message.specs.declared.channel.Pick.{Pick}
+use Rattle.slice_queues.specs.Pick.{line_of}
+use Rattle.slice_queues.specs.declared.channel.Pick.{Pick}
 
 abbrev pub issue_of : ℕ → ℕ → ℕ → IssuedNumbers
 issue_of answer number reply = record { answer = answer; number = number; reply = reply }

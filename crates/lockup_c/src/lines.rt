@@ -2,7 +2,7 @@
 ghost use Rattle.std.specs.Prelude.{◌≡◌, Some, length, slice_get};
 ghost use Rattle.lockup_c.specs.Calls.{SaysFound};
 ghost use Rattle.lockup_c.specs.Lines.{CountsLines, CountsWays, ShowsLine, ShowsWay};
-ghost use Rattle.slice_core_steps.specs.declared.core_lines.CoreLines.TheVariants as core_lines;
+ghost use Rattle.slice_core_exec.specs.declared.core_lines.CoreLines.TheVariants as core_lines;
 
 use super::codes::{DONE, NO_MACHINE, NO_MEMORY, OUT_OF_RANGE};
 use super::handle::{Handle, put, take};

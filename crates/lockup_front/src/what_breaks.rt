@@ -12,7 +12,7 @@ use litmus_command_line::{TableFiles, WhatIfForm};
 use litmus_script::TextWriter;
 use litmus_text::{LineFault, Lines, TextFault};
 use murphi_trace::{Rule, rule_told_by};
-use slice_queues_message::Pick;
+use slice_queues::Pick;
 use std::alloc::Global;
 use std::fmt;
 use std::io::{self, BufWriter, Write};

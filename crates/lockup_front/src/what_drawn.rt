@@ -4,7 +4,7 @@ use address_map::{Block, CoreId, LineAddr, Op, Request as Access, WordAddr};
 use changed_tables::Tables;
 use litmus_chart::{Participant, SpaceTime, State, What, sender};
 use litmus_text::{Command, TextFault};
-use slice_queues_message::{DataMessage, ForwardedMessage, Message, Pick, RequestMessage};
+use slice_queues::{DataMessage, ForwardedMessage, Message, Pick, RequestMessage};
 use std::alloc::Global;
 use what_if::{
     CoreSide, DataKind, Forwarded, ForwardedKind, Line, Promise, RequestKind, Step, Told,

@@ -2,7 +2,7 @@
 //!
 //! [`run_trace`] takes each line that tells of a rule which fired (specs/Fired.antt), by the rule's name and its cores
 //! (specs/Rule.antt), and writes the command that does the same on a machine (specs/Script.antt): so a counterexample
-//! or a walk of the model can be replayed. The names are those that `protocol_murphi` gives the rules. [`rule_told_by`]
+//! or a walk of the model can be replayed. The names are those that `protocol_models` gives the rules. [`rule_told_by`]
 //! reads one line.
 #![tactic(auto)]
 

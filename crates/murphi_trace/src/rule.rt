@@ -9,7 +9,7 @@ ghost use Rattle.murphi_trace.specs.Rule.{rule_at, rule_of};
 use super::event::Event;
 use super::fired::{Fired, behind, parted};
 use address_map::{CoreId, LineAddr};
-use slice_queues_message::Pick;
+use slice_queues::Pick;
 
 /// The line of the model, of which there is one.
 pub(crate) const LINE: LineAddr = LineAddr(0);

@@ -5,7 +5,7 @@ use Rattle.litmus_script.specs.Issued.{IsIssued}
 use Rattle.litmus_script.specs.declared.answers.Issued.{Issued}
 use Rattle.litmus_text.specs.declared.command.Command.TheVariants as commands
 use Rattle.address_map.specs.declared.request.Request.{Request}
-use Rattle.slice_core_plan.specs.declared.decision.Decision.{Decision}
+use Rattle.slice_core_spec.specs.declared.decision.Decision.{Decision}
 use Rattle.program_run.specs.Calls.{with_call}
 use Rattle.program_run.specs.History.{History, HasSeen}
 use Rattle.program_run.specs.Run.{Accesses, AfterAnswer, Leads, RunnerView, decision_on}

@@ -10,19 +10,19 @@ use Rattle.address_map.specs.declared.address.Local.{Local}
 use Rattle.slice_answer.specs.declared.answer.Delivered.{Delivered}
 use Rattle.slice_answer.specs.declared.answer.Delivery.TheVariants as deliveries
 use Rattle.slice_answer.specs.declared.answer.Delivery.{Delivery}
-use Rattle.slice_core_plan.specs.Calls.{PartsView, AfterDelivery, AfterHand, AfterPlan, local_in}
-use Rattle.slice_core_plan.specs.Plan.{plan_of, planned_in}
-use Rattle.slice_core_plan.specs.View.{channels_at}
-use Rattle.slice_core_plan.specs.declared.transition.Transition.TheVariants as transitions
-use Rattle.slice_core_plan.specs.declared.transition.Transition.{Transition}
-use Rattle.slice_core_steps.proofs.NextLaws.{plan-idle}
+use Rattle.slice_core_spec.specs.Calls.{PartsView, AfterDelivery, AfterHand, AfterPlan, local_in}
+use Rattle.slice_core_spec.specs.Plan.{plan_of, planned_in}
+use Rattle.slice_core_spec.specs.View.{channels_at}
+use Rattle.slice_core_spec.specs.declared.transition.Transition.TheVariants as transitions
+use Rattle.slice_core_spec.specs.declared.transition.Transition.{Transition}
+use Rattle.slice_core_exec.proofs.NextLaws.{plan-idle}
 use Rattle.slice_log.specs.declared.entry.Numbered.{Numbered}
 use Rattle.slice_queues.specs.Line.{LineChannels, empty_line, messages_at}
 use Rattle.slice_queues.specs.Ring.{is_listed, with_listed}
 use Rattle.slice_queues.specs.Waiting.{line_waiting}
-use Rattle.slice_queues_message.specs.Pick.{channel_of, line_of as line_of_pick}
-use Rattle.slice_queues_message.specs.declared.channel.Channel.{Channel}
-use Rattle.slice_queues_message.specs.declared.channel.Pick.{Pick}
+use Rattle.slice_queues.specs.Pick.{channel_of, line_of as line_of_pick}
+use Rattle.slice_queues.specs.declared.channel.Channel.{Channel}
+use Rattle.slice_queues.specs.declared.channel.Pick.{Pick}
 use Rattle.program_run.specs.Front.{HasIdleFront, IsIdle}
 
 -- an element of the front of a list

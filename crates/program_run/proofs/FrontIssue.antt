@@ -25,13 +25,13 @@ use Rattle.slice_core_cache.specs.declared.access.AccessKind.TheVariants as acce
 use Rattle.slice_core_cache.specs.declared.access.Ask.{Ask}
 use Rattle.slice_core_cache.specs.declared.access.Placement.{Placement}
 use Rattle.slice_core_cache.specs.declared.access.Placement.TheVariants as placements
-use Rattle.slice_core_plan.specs.Calls.{PartsView, AfterAccepting, AfterAccess, AfterIssue, IsAccepted, LacksMemory}
-use Rattle.slice_core_plan.specs.PrimaryMiss.{AfterPrimaryMiss}
-use Rattle.slice_core_plan.specs.Decision.{decision_at, decision_of, is_counter, overwrites}
-use Rattle.slice_core_plan.specs.View.{View, cache_at, channels_at}
-use Rattle.slice_core_plan.specs.declared.decision.Decision.{Decision}
-use Rattle.slice_core_plan.specs.declared.decision.Decision.TheVariants as decisions
-use Rattle.slice_core_steps.specs.CoreLines.{last_written_back}
+use Rattle.slice_core_spec.specs.Calls.{PartsView, AfterAccepting, AfterAccess, AfterIssue, IsAccepted, LacksMemory}
+use Rattle.slice_core_spec.specs.PrimaryMiss.{AfterPrimaryMiss}
+use Rattle.slice_core_spec.specs.Decision.{decision_at, decision_of, is_counter, overwrites}
+use Rattle.slice_core_spec.specs.View.{View, cache_at, channels_at}
+use Rattle.slice_core_spec.specs.declared.decision.Decision.{Decision}
+use Rattle.slice_core_spec.specs.declared.decision.Decision.TheVariants as decisions
+use Rattle.slice_core_exec.specs.CoreLines.{last_written_back}
 use Rattle.slice_queues.specs.Line.{LineChannels, empty_line}
 use Rattle.slice_queues.specs.Ring.{with_listed}
 use Rattle.program_run.proofs.FrontCalls.{front-kept, listed}

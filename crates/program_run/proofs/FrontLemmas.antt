@@ -13,22 +13,22 @@ use Rattle.slice_answer.specs.declared.answer.Delivery.TheVariants as deliveries
 use Rattle.slice_answer.specs.declared.answer.Delivery.{Delivery}
 use Rattle.slice_core.specs.Facts.{AreWaitingAt, Holds}
 use Rattle.slice_core_theory.proofs.Requests.{one_line}
-use Rattle.slice_core_plan.specs.Calls.{PartsView, next_pick}
-use Rattle.slice_core_plan.specs.Next.{next_by}
-use Rattle.slice_core_plan.specs.Parts.{ring_lines}
-use Rattle.slice_core_plan.specs.Plan.{plan_of, planned_at, planned_in}
-use Rattle.slice_core_plan.specs.Ring.{first_of, next_at, next_in, pick_of}
-use Rattle.slice_core_plan.specs.View.{View, channels_at}
-use Rattle.slice_core_plan.specs.declared.transition.Transition.{Transition}
+use Rattle.slice_core_spec.specs.Calls.{PartsView, next_pick}
+use Rattle.slice_core_spec.specs.Next.{next_by}
+use Rattle.slice_core_spec.specs.Parts.{ring_lines}
+use Rattle.slice_core_spec.specs.Plan.{plan_of, planned_at, planned_in}
+use Rattle.slice_core_spec.specs.Ring.{first_of, next_at, next_in, pick_of}
+use Rattle.slice_core_spec.specs.View.{View, channels_at}
+use Rattle.slice_core_spec.specs.declared.transition.Transition.{Transition}
 use Rattle.slice_queues.specs.Line.{messages_at}
 use Rattle.slice_queues.specs.Waiting.{line_waiting}
-use Rattle.slice_queues_message.specs.Class.{is_of_class}
-use Rattle.slice_queues_message.specs.Pick.{pick_at}
-use Rattle.slice_queues_message.specs.declared.channel.Channel.{Channel}
-use Rattle.slice_queues_message.specs.declared.channel.Channel.TheVariants as channels
-use Rattle.slice_queues_message.specs.declared.channel.Class.TheVariants as classes
-use Rattle.slice_queues_message.specs.declared.channel.Pick.{Pick}
-use Rattle.slice_queues_message.specs.declared.message.Message.{Message}
+use Rattle.slice_queues.specs.Class.{is_of_class}
+use Rattle.slice_queues.specs.Pick.{pick_at}
+use Rattle.slice_queues.specs.declared.channel.Channel.{Channel}
+use Rattle.slice_queues.specs.declared.channel.Channel.TheVariants as channels
+use Rattle.slice_queues.specs.declared.channel.Class.TheVariants as classes
+use Rattle.slice_queues.specs.declared.channel.Pick.{Pick}
+use Rattle.slice_queues.specs.declared.message.Message.{Message}
 use Rattle.program_run.specs.Front.{HasIdleFront, IsApart, IsFront, IsIdle, IsLineFront, WaitsFirst, delivery_if}
 use Rattle.program_run.specs.Run.{delivery_of}
 use Rattle.program_run.specs.declared.front.Front.TheVariants as fronts

@@ -39,22 +39,22 @@ use Rattle.slice_core_cache.specs.declared.access.Ask.{Ask}
 use Rattle.slice_core_cache.specs.declared.access.Placement.{Placement}
 use Rattle.slice_core_cache.specs.declared.access.Placement.TheVariants as placements
 use Rattle.slice_core_cache.specs.declared.copy.CacheCopy.{CacheCopy}
-use Rattle.slice_core_plan.specs.Calls.{PartsView, AfterAccepting, AfterAccess, AfterDelivery, AfterHand, AfterIssue}
-use Rattle.slice_core_plan.specs.Calls.{AfterPlan, IsAccepted, LacksMemory, Settles, core_of, local_in}
-use Rattle.slice_core_plan.specs.Decision.{decision_of, overwrites}
-use Rattle.slice_core_plan.specs.Parts.{ring_lines}
-use Rattle.slice_core_plan.specs.Plan.{plan_of, planned_in}
-use Rattle.slice_core_plan.specs.Steps.{after_open, with_way}
-use Rattle.slice_core_plan.specs.View.{View, cache_at, no_cache}
-use Rattle.slice_core_steps.specs.CoreLines.{last_written_back}
-use Rattle.slice_core_plan.specs.declared.decision.Decision.{Decision}
-use Rattle.slice_core_plan.specs.declared.decision.Decision.TheVariants as decisions
-use Rattle.slice_core_plan.specs.declared.transition.Transition.TheVariants as transitions
-use Rattle.slice_core_plan.specs.declared.transition.Transition.{Transition}
+use Rattle.slice_core_spec.specs.Calls.{PartsView, AfterAccepting, AfterAccess, AfterDelivery, AfterHand, AfterIssue}
+use Rattle.slice_core_spec.specs.Calls.{AfterPlan, IsAccepted, LacksMemory, Settles, core_of, local_in}
+use Rattle.slice_core_spec.specs.Decision.{decision_of, overwrites}
+use Rattle.slice_core_spec.specs.Parts.{ring_lines}
+use Rattle.slice_core_spec.specs.Plan.{plan_of, planned_in}
+use Rattle.slice_core_spec.specs.Steps.{after_open, with_way}
+use Rattle.slice_core_spec.specs.View.{View, cache_at, no_cache}
+use Rattle.slice_core_exec.specs.CoreLines.{last_written_back}
+use Rattle.slice_core_spec.specs.declared.decision.Decision.{Decision}
+use Rattle.slice_core_spec.specs.declared.decision.Decision.TheVariants as decisions
+use Rattle.slice_core_spec.specs.declared.transition.Transition.TheVariants as transitions
+use Rattle.slice_core_spec.specs.declared.transition.Transition.{Transition}
 use Rattle.slice_log.specs.declared.entry.Numbered.{Numbered}
-use Rattle.slice_queues_message.specs.Pick.{channel_of, line_of as line_of_pick}
-use Rattle.slice_queues_message.specs.declared.channel.Channel.{Channel}
-use Rattle.slice_queues_message.specs.declared.channel.Pick.{Pick}
+use Rattle.slice_queues.specs.Pick.{channel_of, line_of as line_of_pick}
+use Rattle.slice_queues.specs.declared.channel.Channel.{Channel}
+use Rattle.slice_queues.specs.declared.channel.Pick.{Pick}
 use Rattle.program_run.proofs.FrontCalls.{delivery-front, hand-front}
 use Rattle.program_run.proofs.FrontIssue.{SentAt, issue-front, same-front}
 use Rattle.program_run.specs.Front.{AreIdle, HasIdleFront, IsApart, LooksAgain, LooksBehind}

@@ -9,11 +9,11 @@ use Rattle.address_map.specs.Locator.{line_at, local_at}
 use Rattle.address_map.specs.declared.address.LineAddr.{LineAddr}
 use Rattle.address_map.specs.declared.address.Local.{Local}
 use Rattle.slice_core.specs.Facts.{AreWaitingAt, Holds}
-use Rattle.slice_core_plan.specs.Calls.{PartsView}
-use Rattle.slice_core_plan.specs.Parts.{ring_lines}
-use Rattle.slice_core_plan.specs.View.{View}
-use Rattle.slice_queues_message.specs.Pick.{pick_at}
-use Rattle.slice_queues_message.specs.declared.channel.Channel.{Channel}
+use Rattle.slice_core_spec.specs.Calls.{PartsView}
+use Rattle.slice_core_spec.specs.Parts.{ring_lines}
+use Rattle.slice_core_spec.specs.View.{View}
+use Rattle.slice_queues.specs.Pick.{pick_at}
+use Rattle.slice_queues.specs.declared.channel.Channel.{Channel}
 use Rattle.program_run.specs.Front.{HasIdleFront, IsIdle}
 use Rattle.program_run.specs.Run.{or_else, owed_from, owed_in, waiting_at, waiting_in, waiting_of}
 use Rattle.program_run.specs.declared.moves.Move.{Move}

@@ -7,7 +7,7 @@ use Rattle.address_map.specs.declared.address.Local.{Local}
 use Rattle.mshr_file.specs.Miss.{is_waited}
 use Rattle.slice_core.specs.Facts.{HasOneRegister, copy_at, targets_at}
 use Rattle.slice_core_cache.specs.declared.copy.CacheCopy.{CacheCopy}
-use Rattle.slice_core_plan.specs.View.{View}
+use Rattle.slice_core_spec.specs.View.{View}
 use Rattle.target_list.specs.declared.target.Target.{Target}
 use Rattle.program_run.specs.Register.{waits_in}
 

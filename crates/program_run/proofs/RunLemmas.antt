@@ -14,7 +14,7 @@ use Rattle.program_run.specs.Run.{RunnerView, measured_runner, usages_of}
 use Rattle.program_run.specs.Run.{RunState, Runs, asks_of, deliveries_of, drawn_move, free_moves, is_measured, moves_of}
 use Rattle.program_run.specs.Run.{nothing_owed, or_else, owed_behind, owed_from, run_of}
 use Rattle.program_run.specs.Run.{text_of, text_of_stuck}
-use Rattle.slice_core_plan.specs.Calls.{PartsView}
+use Rattle.slice_core_spec.specs.Calls.{PartsView}
 use Rattle.program_run.specs.Tidy.{Tidies}
 use Rattle.program_run.specs.Tally.{TallyView}
 use Rattle.program_run.specs.declared.moves.Move.{Move}

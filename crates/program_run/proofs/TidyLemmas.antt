@@ -2,7 +2,7 @@
 use Rattle.std.proofs.Common.{◌≡◌, ℕ, suc, ◌+◌, List, arith}
 use Rattle.std.specs.Prelude.{slice_get}
 use Rattle.std.specs.List.{range_with_len}
-use Rattle.slice_core_plan.specs.Calls.{PartsView}
+use Rattle.slice_core_spec.specs.Calls.{PartsView}
 use Rattle.program_run.specs.Tidy.{TidiesAll, TidiesSlice, tidied_by}
 
 -- what tidies all that are left from this one on tidies all, and so does what tidies those after it

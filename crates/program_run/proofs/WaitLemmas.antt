@@ -6,7 +6,7 @@ use Rattle.address_map.specs.declared.config.Config.{Config}
 use Rattle.program_text.specs.declared.programs.CoreProgram.{CoreProgram}
 use Rattle.program_text.specs.declared.programs.Programs.{Programs}
 use Rattle.program_text.specs.declared.programs.Step.{Step}
-use Rattle.slice_core_plan.specs.Calls.{PartsView}
+use Rattle.slice_core_spec.specs.Calls.{PartsView}
 use Rattle.program_run.specs.Run.{may_ask, may_step, may_step_at, next_by, turn_by}
 use Rattle.program_run.specs.declared.moves.Place.{Place}
 

@@ -16,11 +16,11 @@ use Rattle.program_run.specs.declared.cause.Fate.{Fate}
 use Rattle.program_run.specs.declared.cause.Fate.TheVariants as fates
 use Rattle.slice_answer.specs.declared.answer.Stall.{Stall}
 use Rattle.slice_log.specs.declared.entry.Entry.{Entry}
-use Rattle.slice_queues_message.specs.declared.channel.Pick.{Pick}
-use Rattle.slice_queues_message.specs.declared.channel.Pick.TheVariants as picks
-use Rattle.slice_queues_message.specs.declared.message.ForwardedMessage.TheVariants as forwarded_messages
-use Rattle.slice_queues_message.specs.declared.message.Message.{Message}
-use Rattle.slice_queues_message.specs.declared.message.Message.TheVariants as messages
+use Rattle.slice_queues.specs.declared.channel.Pick.{Pick}
+use Rattle.slice_queues.specs.declared.channel.Pick.TheVariants as picks
+use Rattle.slice_queues.specs.declared.message.ForwardedMessage.TheVariants as forwarded_messages
+use Rattle.slice_queues.specs.declared.message.Message.{Message}
+use Rattle.slice_queues.specs.declared.message.Message.TheVariants as messages
 use Rattle.program_run.specs.Tally.{new_tally, tally_after}
 use Rattle.program_run.specs.declared.observer.Observer.{Observer}
 use Rattle.program_run.specs.declared.tally.Counted.{Counted}

@@ -40,20 +40,20 @@ use Rattle.slice_core.specs.declared.run.CallAnswer.TheVariants as call_answers
 use Rattle.slice_answer.specs.declared.answer.Delivered.{Delivered}
 use Rattle.slice_answer.specs.declared.answer.Delivered.TheVariants as delivered
 use Rattle.slice_log.specs.declared.entry.Entry.{Entry}
-use Rattle.slice_core_plan.specs.Decision.{decision_of}
-use Rattle.slice_core_plan.specs.Calls.{PartsView, next_pick}
-use Rattle.slice_core_plan.specs.Parts.{ring_lines}
-use Rattle.slice_core_plan.specs.View.{IsQuiet, View, channels_at}
-use Rattle.slice_core_plan.specs.declared.decision.Decision.{Decision}
-use Rattle.slice_core_plan.specs.declared.decision.Decision.TheVariants as decisions
+use Rattle.slice_core_spec.specs.Decision.{decision_of}
+use Rattle.slice_core_spec.specs.Calls.{PartsView, next_pick}
+use Rattle.slice_core_spec.specs.Parts.{ring_lines}
+use Rattle.slice_core_spec.specs.View.{IsQuiet, View, channels_at}
+use Rattle.slice_core_spec.specs.declared.decision.Decision.{Decision}
+use Rattle.slice_core_spec.specs.declared.decision.Decision.TheVariants as decisions
 use Rattle.slice_core_cache.specs.declared.access.AccessKind.TheVariants as access_kinds
 use Rattle.slice_core_cache.specs.declared.access.Placement.TheVariants as placements
-use Rattle.slice_core_steps.specs.CoreLines.{last_written_back}
+use Rattle.slice_core_exec.specs.CoreLines.{last_written_back}
 use Rattle.slice_queues.specs.Waiting.{line_waiting}
-use Rattle.slice_queues_message.specs.Pick.{channel_of, line_of as line_of_pick, pick_at}
-use Rattle.slice_queues_message.specs.declared.channel.Class.TheVariants as classes
-use Rattle.slice_queues_message.specs.declared.channel.Pick.{Pick}
-use Rattle.slice_queues_message.specs.declared.message.Message.{Message}
+use Rattle.slice_queues.specs.Pick.{channel_of, line_of as line_of_pick, pick_at}
+use Rattle.slice_queues.specs.declared.channel.Class.TheVariants as classes
+use Rattle.slice_queues.specs.declared.channel.Pick.{Pick}
+use Rattle.slice_queues.specs.declared.message.Message.{Message}
 use Rattle.program_run.specs.Calls.{CallsView, no_calls, text_of_script, with_call}
 use Rattle.program_run.specs.History.{History, HasSeen, after_eviction, after_hit, after_message, after_performing}
 use Rattle.program_run.specs.History.{after_stalling, no_history}

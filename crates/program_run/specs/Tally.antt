@@ -7,9 +7,9 @@ use Rattle.program_run.specs.declared.cause.Cause.TheVariants as causes
 use Rattle.slice_answer.specs.Stats.{next_count, no_messages, one_more_message}
 use Rattle.slice_answer.specs.declared.answer.Stall.{Stall}
 use Rattle.slice_answer.specs.declared.answer.Stall.TheVariants as stalls
-use Rattle.slice_queues_message.specs.Pick.{channel_of, line_of as line_of_pick}
-use Rattle.slice_queues_message.specs.declared.channel.Pick.{Pick}
-use Rattle.slice_queues_message.specs.declared.channel.Pick.TheVariants as picks
+use Rattle.slice_queues.specs.Pick.{channel_of, line_of as line_of_pick}
+use Rattle.slice_queues.specs.declared.channel.Pick.{Pick}
+use Rattle.slice_queues.specs.declared.channel.Pick.TheVariants as picks
 use Rattle.stats_report.specs.Report.{capped_sum, sum_of}
 use Rattle.program_run.specs.declared.tally.Counted.{Counted}
 use Rattle.program_run.specs.declared.tally.Counted.TheVariants as counted_kinds

@@ -6,11 +6,11 @@ use Rattle.litmus_script.specs.Machine.{IsMade}
 use Rattle.slice_answer.specs.declared.answer.Delivery.{Delivery}
 use Rattle.slice_answer.specs.declared.answer.Delivery.TheVariants as deliveries
 use Rattle.slice_core.specs.declared.run.Call.TheVariants as slice_calls
-use Rattle.slice_core_plan.specs.Calls.{PartsView, next_pick}
-use Rattle.slice_core_plan.specs.Parts.{ring_lines}
-use Rattle.slice_queues_message.specs.declared.channel.Class.{Class}
-use Rattle.slice_queues_message.specs.declared.channel.Class.TheVariants as classes
-use Rattle.slice_queues_message.specs.declared.channel.Pick.{Pick}
+use Rattle.slice_core_spec.specs.Calls.{PartsView, next_pick}
+use Rattle.slice_core_spec.specs.Parts.{ring_lines}
+use Rattle.slice_queues.specs.declared.channel.Class.{Class}
+use Rattle.slice_queues.specs.declared.channel.Class.TheVariants as classes
+use Rattle.slice_queues.specs.declared.channel.Pick.{Pick}
 
 abbrev pub is_moved : Delivery Pick → Bool
 is_moved (deliveries.Moved pick) = true

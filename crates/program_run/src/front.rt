@@ -2,11 +2,11 @@
 //! then passed over.
 ghost use Rattle.std.specs.Prelude.{◌≡◌, ◌≢◌, ◌≤◌, ◌++◌, OnOk, Some, false, map};
 ghost use Rattle.address_map.specs.Locator.{local_at};
-ghost use Rattle.slice_core_plan.specs.Calls.{next_pick};
-ghost use Rattle.slice_queues_message.specs.declared.channel.Class.TheVariants as classes;
+ghost use Rattle.slice_core_spec.specs.Calls.{next_pick};
+ghost use Rattle.slice_queues.specs.declared.channel.Class.TheVariants as classes;
 ghost use Rattle.program_run.specs.Front.{HasIdleFront, IsApart, IsFront, IsLineFront, IsNextFrom, delivery_if};
 ghost use Rattle.program_run.specs.Run.{delivery_of, waiting_in, waiting_of};
-ghost use Rattle.slice_queues_message.specs.Pick.{pick_at};
+ghost use Rattle.slice_queues.specs.Pick.{pick_at};
 
 use super::moves::Move;
 use address_map::LineAddr;

@@ -16,13 +16,13 @@ ghost use Rattle.program_run.specs.Tally.{
   totals_of,
 };
 ghost use Rattle.slice_answer.specs.Stats.{one_more_message};
-ghost use Rattle.slice_queues_message.specs.Pick.{channel_of};
+ghost use Rattle.slice_queues.specs.Pick.{channel_of};
 ghost use Rattle.stats_report.specs.Report.{sum_of};
 
 use super::cause::Cause;
 use address_map::{Checked, CoreId, LineAddr};
 use slice_answer::{MessageCounts, Stall};
-use slice_queues_message::Pick;
+use slice_queues::Pick;
 use std::alloc::{AllocError, Global};
 use std::marker::Model;
 

@@ -21,7 +21,7 @@ use Rattle.slice_core_cache.specs.CoreCache.{CoreCacheView}
 use Rattle.slice_core_theory.proofs.Kept.{same_core}
 use Rattle.slice_core_theory.specs.SmallMachine.{Asked}
 use Rattle.slice_core_theory.specs.Shows.{Waits, request_of_target, small_machine_of}
-use Rattle.slice_core_plan.specs.View.{View, first_word, no_cache, cache_at}
+use Rattle.slice_core_spec.specs.View.{View, first_word, no_cache, cache_at}
 use Rattle.slice_core_theory.specs.Standing.{has_seq, is_of}
 use Rattle.slice_log.specs.declared.entry.Entry.{Entry}
 use Rattle.target_list.specs.declared.target.Target.{Target}

@@ -14,7 +14,7 @@ use Rattle.slice_core_cache.specs.declared.copy.CacheCopy.{CacheCopy}
 use Rattle.receipt_ledger.specs.Totals.{nothing}
 use Rattle.slice_core_theory.specs.SmallMachine.{IsSame, new_small_machine}
 use Rattle.slice_core_theory.specs.Shows.{small_machine_of}
-use Rattle.slice_core_plan.specs.Calls.{IsNew, PartsView}
+use Rattle.slice_core_spec.specs.Calls.{IsNew, PartsView}
 
 map-replicate : {X Y : Type 0} (f : X → Y) (n : ℕ) (x : X) → map f (replicate n x) ≡ replicate n (f x)
 map-replicate f zero x = refl

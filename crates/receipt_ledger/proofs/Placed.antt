@@ -24,10 +24,10 @@ use Rattle.slice_core_cache.specs.CoreCache.{tag_at}
 use Rattle.slice_core_cache.specs.Tags.{is_free}
 use Rattle.slice_core_cache.specs.declared.access.AccessKind.{AccessKind}
 use Rattle.slice_core_cache.specs.declared.access.AccessKind.TheVariants as access_kinds
-use Rattle.slice_core_plan.specs.Calls.{PartsView, AfterAccess, AfterIssue}
-use Rattle.slice_core_plan.specs.View.{cache_at}
-use Rattle.slice_core_plan.specs.declared.decision.Decision.{Decision}
-use Rattle.slice_core_plan.specs.declared.decision.Decision.TheVariants as decisions
+use Rattle.slice_core_spec.specs.Calls.{PartsView, AfterAccess, AfterIssue}
+use Rattle.slice_core_spec.specs.View.{cache_at}
+use Rattle.slice_core_spec.specs.declared.decision.Decision.{Decision}
+use Rattle.slice_core_spec.specs.declared.decision.Decision.TheVariants as decisions
 
 somewhere : (found : Option Local) → found ≡ None → IsSome found → ⊥
 somewhere None is there = cc

@@ -9,7 +9,7 @@ use Rattle.slice_core_theory.proofs.Kept.{named-known}
 use Rattle.slice_core_theory.proofs.Requests.{none-contained, waits-known}
 use Rattle.slice_core_theory.specs.SmallMachine.{Asked}
 use Rattle.slice_core_theory.specs.Shows.{IsNamed, Waits}
-use Rattle.slice_core_plan.specs.View.{View, IsQuiet, no_cache, cache_at}
+use Rattle.slice_core_spec.specs.View.{View, IsQuiet, no_cache, cache_at}
 
 module _ (v : View) (quiet : IsQuiet v) where
   cache-quiet : (core : CoreId) → core.0 < length v.caches → IsCoreCacheQuiet (cache_at v core)

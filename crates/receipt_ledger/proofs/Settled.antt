@@ -33,8 +33,8 @@ use Rattle.receipt_ledger.specs.Totals.{Totals, together, totals}
 use Rattle.slice_log.specs.Log.{IsLegal, IsOrdered, initially, named, value}
 use Rattle.slice_log.specs.declared.entry.Entry.{Entry}
 use Rattle.slice_core_theory.specs.SmallMachine.{Asked}
-use Rattle.slice_core_plan.specs.Calls.{PartsView}
-use Rattle.slice_core_plan.specs.View.{View, IsQuiet}
+use Rattle.slice_core_spec.specs.Calls.{PartsView}
+use Rattle.slice_core_spec.specs.View.{View, IsQuiet}
 
 -- Ports hold together what was accepted and handed out through all of them.
 held-totals : (c : Config) (number : ℕ) (ports : List PortView)

@@ -24,9 +24,9 @@ use Rattle.slice_log.specs.declared.entry.Entry.{Entry}
 use Rattle.slice_core_theory.specs.SmallMachine.{Asked, accept, after, entry_for, hand, perform}
 use Rattle.slice_core_theory.specs.Shows.{Leads, Performs, issue_steps, next_of, small_machine_of}
 use Rattle.slice_log.specs.declared.entry.Numbered.{Numbered}
-use Rattle.slice_core_plan.specs.Calls.{AfterHand, AfterIssue, PartsView}
+use Rattle.slice_core_spec.specs.Calls.{AfterHand, AfterIssue, PartsView}
 use Rattle.slice_core.specs.Shape.{shape_of}
-use Rattle.slice_core_plan.specs.View.{no_cache}
+use Rattle.slice_core_spec.specs.View.{no_cache}
 use Rattle.slice_core_cache.specs.CoreCache.{CoreCacheView}
 
 -- Where all parts have the same shapes, each has.

@@ -18,7 +18,7 @@ use Rattle.address_map.specs.declared.config.Config.{Config}
 use Rattle.address_map.specs.declared.request.Op.{Op}
 use Rattle.address_map.specs.declared.request.Op.TheVariants as ops
 use Rattle.receipt_ledger.specs.Booked.{stores_to}
-use Rattle.slice_core_plan.specs.Decision.{overwrites}
+use Rattle.slice_core_spec.specs.Decision.{overwrites}
 use Rattle.slice_log.proofs.Values.{value-push}
 use Rattle.slice_log.specs.Log.{added_to, named, stored_to, stored_by, value, value_past}
 use Rattle.slice_log.specs.declared.entry.Entry.{Entry}

@@ -5,7 +5,7 @@ use Rattle.receipt_ledger.specs.Booked.{IsTied}
 use Rattle.receipt_ledger.specs.Totals.{Totals}
 use Rattle.slice_core.specs.Facts.{Holds}
 use Rattle.slice_core_cache.specs.CoreCache.{CoreCacheView}
-use Rattle.slice_core_plan.specs.Calls.{PartsView}
+use Rattle.slice_core_spec.specs.Calls.{PartsView}
 
 -- the requests that were accepted, of all cores
 abbrev pub accepted_by : List CoreCacheView → ℕ

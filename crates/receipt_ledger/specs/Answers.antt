@@ -21,7 +21,7 @@ use Rattle.slice_answer.specs.declared.answer.Refused.TheVariants as refusals
 use Rattle.slice_log.specs.declared.entry.Entry.{Entry}
 use Rattle.slice_log.specs.declared.entry.Numbered.{Numbered}
 use Rattle.slice_core_theory.specs.SmallMachine.{Asked, Step, accept, hand, perform}
-use Rattle.slice_core_plan.specs.Calls.{PartsView, AfterHand, AfterIssue}
+use Rattle.slice_core_spec.specs.Calls.{PartsView, AfterHand, AfterIssue}
 
 -- The receipt is of the port's slice, and of a request that the port's core made.
 pub record IsReceiptOf (p : PortView) (r : Receipt) : Type 0 where

@@ -11,8 +11,8 @@ use Rattle.receipt_ledger.specs.Totals.{Totals, totals}
 use Rattle.slice_log.specs.declared.entry.Entry.{Entry}
 use Rattle.slice_core_theory.specs.SmallMachine.{Asked, SmallMachine}
 use Rattle.slice_core_theory.specs.Shows.{small_machine_of}
-use Rattle.slice_core_plan.specs.Decision.{overwrites}
-use Rattle.slice_core_plan.specs.Calls.{PartsView}
+use Rattle.slice_core_spec.specs.Decision.{overwrites}
+use Rattle.slice_core_spec.specs.Calls.{PartsView}
 
 -- whether the access stores to one of the counters
 abbrev pub stores_to : List WordAddr → Op → WordAddr → Bool

@@ -5,7 +5,7 @@ use Rattle.receipt_ledger.specs.Booked.{IsTied}
 use Rattle.receipt_ledger.specs.Totals.{Totals}
 use Rattle.slice_core.specs.Facts.{IsSameSlice}
 use Rattle.slice_core_theory.specs.Shows.{Leads, Performs}
-use Rattle.slice_core_plan.specs.Calls.{PartsView}
+use Rattle.slice_core_spec.specs.Calls.{PartsView}
 
 -- A book that belongs to a state belongs to the state that a delivery leaves: what a delivery performs, if anything, was
 -- accepted before and isn't handed out yet.

@@ -8,7 +8,7 @@ use Rattle.receipt_ledger.specs.Port.{PortView, entries_of, held_by}
 use Rattle.address_map.specs.Place.{counters_of}
 use Rattle.receipt_ledger.specs.Totals.{Totals, nothing, together}
 use Rattle.slice_log.specs.Log.{IsLegal, IsOrdered, initially, named, value}
-use Rattle.slice_core_plan.specs.View.{View}
+use Rattle.slice_core_spec.specs.View.{View}
 
 -- what the ports hold of the totals
 abbrev pub held_in : Config → ℕ → List PortView → Totals

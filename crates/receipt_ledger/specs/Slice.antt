@@ -6,7 +6,7 @@ use Rattle.address_map.specs.declared.address.CoreId.{CoreId}
 use Rattle.address_map.specs.declared.config.Config.{Config}
 use Rattle.address_map.specs.Place.{counters_of, init_of}
 use Rattle.slice_core.specs.Shape.{Shape, shape_of}
-use Rattle.slice_core_plan.specs.View.{View, cache_at}
+use Rattle.slice_core_spec.specs.View.{View, cache_at}
 
 -- A core's part is built as the machine is configured: so many sets of so many ways, replaced by this policy, and room
 -- for so many lines that leave.

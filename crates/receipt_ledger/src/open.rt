@@ -5,7 +5,7 @@ ghost use Rattle.receipt_ledger.specs.Names.{AreLedgersOf};
 ghost use Rattle.receipt_ledger.specs.Totals.{nothing};
 ghost use Rattle.slice_core_theory.specs.SmallMachine.{IsSame, new_small_machine};
 ghost use Rattle.slice_core_theory.specs.Shows.{small_machine_of};
-ghost use Rattle.slice_core_plan.specs.Calls.{IsNew};
+ghost use Rattle.slice_core_spec.specs.Calls.{IsNew};
 
 use super::blanks::Blanks;
 use super::book::Book;

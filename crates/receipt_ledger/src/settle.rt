@@ -6,7 +6,7 @@ ghost use Rattle.receipt_ledger.specs.Settled.{held_in, IsSettled};
 ghost use Rattle.address_map.specs.Place.{counters_of};
 ghost use Rattle.receipt_ledger.specs.Totals.{together};
 ghost use Rattle.slice_log.specs.Log.{initially, value};
-ghost use Rattle.slice_core_plan.specs.View.{IsQuiet};
+ghost use Rattle.slice_core_spec.specs.View.{IsQuiet};
 
 use super::book::Book;
 use super::gather::gather;

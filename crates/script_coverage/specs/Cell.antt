@@ -18,15 +18,15 @@ use Rattle.slice_answer.specs.declared.answer.Evicted.TheVariants as evictions
 use Rattle.slice_answer.specs.declared.answer.Stall.TheVariants as stalls
 use Rattle.slice_core_cache.specs.declared.access.AccessKind.{AccessKind}
 use Rattle.slice_core_cache.specs.declared.access.AccessKind.TheVariants as access_kinds
-use Rattle.slice_core_plan.specs.declared.decision.Decision.{Decision}
-use Rattle.slice_core_plan.specs.declared.decision.Decision.TheVariants as decisions
-use Rattle.slice_core_plan.specs.declared.transition.Transition.{Transition}
-use Rattle.slice_core_plan.specs.declared.transition.Transition.TheVariants as transitions
-use Rattle.slice_queues_message.specs.declared.message.DataMessage.TheVariants as data_messages
-use Rattle.slice_queues_message.specs.declared.message.ForwardedMessage.TheVariants as forwarded_messages
-use Rattle.slice_queues_message.specs.declared.message.Message.{Message}
-use Rattle.slice_queues_message.specs.declared.message.Message.TheVariants as messages
-use Rattle.slice_queues_message.specs.declared.message.RequestMessage.TheVariants as request_messages
+use Rattle.slice_core_spec.specs.declared.decision.Decision.{Decision}
+use Rattle.slice_core_spec.specs.declared.decision.Decision.TheVariants as decisions
+use Rattle.slice_core_spec.specs.declared.transition.Transition.{Transition}
+use Rattle.slice_core_spec.specs.declared.transition.Transition.TheVariants as transitions
+use Rattle.slice_queues.specs.declared.message.DataMessage.TheVariants as data_messages
+use Rattle.slice_queues.specs.declared.message.ForwardedMessage.TheVariants as forwarded_messages
+use Rattle.slice_queues.specs.declared.message.Message.{Message}
+use Rattle.slice_queues.specs.declared.message.Message.TheVariants as messages
+use Rattle.slice_queues.specs.declared.message.RequestMessage.TheVariants as request_messages
 use Rattle.slice_text.specs.declared.step.case.Case.{Case}
 use Rattle.slice_text.specs.declared.step.case.Event.{Event}
 use Rattle.slice_text.specs.declared.step.case.Event.TheVariants as events

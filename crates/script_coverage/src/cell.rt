@@ -8,8 +8,8 @@ use cache_table::CopyState;
 use script_explained::{DeliveryStep, Step};
 use slice_answer::{Evicted, Stall};
 use slice_core_cache::AccessKind;
-use slice_core_plan::{Decision, Plan, Transition};
-use slice_queues_message::{DataMessage, ForwardedMessage, Message, RequestMessage};
+use slice_core_spec::{Decision, Plan, Transition};
+use slice_queues::{DataMessage, ForwardedMessage, Message, RequestMessage};
 use slice_text::{Case, Event, Who};
 
 /// The cell of a step, if it met one.

@@ -1,8 +1,8 @@
 -- The step of a slice's next delivery, which is the one that was named before it was made.
 use Rattle.std.proofs.Common.{◌≡◌, ◌≢◌, ℕ, Some, None, ap, refl, sym, ◌∙◌}
 use Rattle.script_explained.specs.Step.{moved_at, next_step}
-use Rattle.slice_core_plan.specs.View.{View}
-use Rattle.slice_queues_message.specs.declared.channel.Pick.{Pick}
+use Rattle.slice_core_spec.specs.View.{View}
+use Rattle.slice_queues.specs.declared.channel.Pick.{Pick}
 use Rattle.slice_answer.specs.declared.answer.Delivery.TheVariants as deliveries
 use Rattle.slice_answer.specs.declared.answer.Delivery.{Delivery}
 

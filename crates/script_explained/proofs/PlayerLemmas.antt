@@ -12,9 +12,9 @@ use Rattle.script_explained.specs.declared.step.AccessStep.{AccessStep}
 use Rattle.script_explained.specs.declared.step.DeliveryStep.{DeliveryStep}
 use Rattle.script_explained.specs.declared.step.EvictionStep.{EvictionStep}
 use Rattle.script_explained.specs.declared.step.Step.TheVariants as steps
-use Rattle.slice_core_plan.specs.Calls.{PartsView}
-use Rattle.slice_queues_message.specs.Pick.{line_of}
-use Rattle.slice_queues_message.specs.declared.channel.Pick.{Pick}
+use Rattle.slice_core_spec.specs.Calls.{PartsView}
+use Rattle.slice_queues.specs.Pick.{line_of}
+use Rattle.slice_queues.specs.declared.channel.Pick.{Pick}
 
 pub delivery_made : (config : Config) (pick : Pick) (slice : ℕ) (old new : List PartsView) (delivery : DeliveryStep)
     → slice ≡ (line_of pick).0 % config.slices → delivery.pick ≡ pick

@@ -3,7 +3,7 @@ use Rattle.std.proofs.Common.{ℕ, ◌+◌, List, [], ◌∷◌, Option, suc, ze
 use Rattle.litmus_script.specs.Pump.{Delivers, MovesTimes, Pumps}
 use Rattle.litmus_script.specs.declared.answers.Pumped.{Pumped}
 use Rattle.slice_answer.specs.declared.answer.Delivery.{Delivery}
-use Rattle.slice_queues_message.specs.declared.channel.Pick.{Pick}
+use Rattle.slice_queues.specs.declared.channel.Pick.{Pick}
 
 module _ {D : Type 0} (Inv : D → Type 0)
     (tells : D → ℕ → Delivery Pick → Option (List ℕ) → Option (List ℕ) → D → Type 0)

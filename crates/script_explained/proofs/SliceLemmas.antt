@@ -8,7 +8,7 @@ use Rattle.std.specs.Prelude.{length}
 use Rattle.address_map.specs.declared.config.Config.{Config}
 use Rattle.litmus_script.specs.Machine.{IsMachine, IsSliceOf, OneSlice}
 use Rattle.slice_core.specs.Facts.{IsSameSlice}
-use Rattle.slice_core_plan.specs.Calls.{PartsView}
+use Rattle.slice_core_spec.specs.Calls.{PartsView}
 
 -- the slice is the one that it was
 same_slice : (config : Config) (i : ℕ) (old new : PartsView) → IsSameSlice old new → IsSliceOf config i old

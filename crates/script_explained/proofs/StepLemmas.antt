@@ -8,8 +8,8 @@ use Rattle.litmus_text.specs.declared.fault.TextFault.{TextFault}
 use Rattle.litmus_text.specs.declared.command.Command.TheVariants as commands
 use Rattle.script_explained.specs.declared.step.Step.{Step}
 use Rattle.slice_answer.specs.declared.answer.Delivery.{Delivery}
-use Rattle.slice_core_plan.specs.Calls.{PartsView}
-use Rattle.slice_queues_message.specs.declared.channel.Pick.{Pick}
+use Rattle.slice_core_spec.specs.Calls.{PartsView}
+use Rattle.slice_queues.specs.declared.channel.Pick.{Pick}
 
 pub next_shown : {S : Type 0} (writes : S → WritingNext) (writer known : S) (config shape : Config)
     (old new : List PartsView) (slice : ℕ) (answer : Delivery Pick) (before after : Option (List ℕ))

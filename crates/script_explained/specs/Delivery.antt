@@ -7,12 +7,12 @@ use Rattle.litmus_text.specs.Command.{parts_of}
 use Rattle.litmus_text.specs.declared.command.Command.TheVariants as commands
 use Rattle.script_explained.specs.Look.{copy_at, entry_of, message_at}
 use Rattle.litmus_text.specs.Line.{text_of_parts}
-use Rattle.slice_core_plan.specs.Calls.{core_of}
-use Rattle.slice_core_plan.specs.Plan.{planned_at}
-use Rattle.slice_core_plan.specs.View.{View}
-use Rattle.slice_queues_message.specs.Pick.{channel_of, line_of}
-use Rattle.slice_queues_message.specs.declared.channel.Pick.{Pick}
-use Rattle.slice_queues_message.specs.declared.channel.Pick.TheVariants as picks
+use Rattle.slice_core_spec.specs.Calls.{core_of}
+use Rattle.slice_core_spec.specs.Plan.{planned_at}
+use Rattle.slice_core_spec.specs.View.{View}
+use Rattle.slice_queues.specs.Pick.{channel_of, line_of}
+use Rattle.slice_queues.specs.declared.channel.Pick.{Pick}
+use Rattle.slice_queues.specs.declared.channel.Pick.TheVariants as picks
 use Rattle.slice_text.specs.Delivery.{text_of_delivery}
 use Rattle.slice_text.specs.declared.step.case.Case.{Case}
 use Rattle.slice_text.specs.declared.step.case.Event.TheVariants as events
@@ -21,7 +21,7 @@ use Rattle.slice_text.specs.declared.step.case.Who.TheVariants as whos
 use Rattle.slice_text.specs.declared.step.delivery.ExplainedDelivery.{ExplainedDelivery}
 use Rattle.slice_text.specs.declared.step.effects.Done.{Done}
 use Rattle.slice_answer.specs.declared.answer.Delivery.{Delivery}
-use Rattle.slice_core_plan.specs.declared.transition.Transition.{Transition}
+use Rattle.slice_core_spec.specs.declared.transition.Transition.{Transition}
 
 -- who takes the message in front of a channel of the slice with this number
 abbrev pub who_takes : ℕ → View → Pick → Who

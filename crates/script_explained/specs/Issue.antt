@@ -16,10 +16,10 @@ use Rattle.script_explained.specs.declared.step.EvictionStep.{EvictionStep}
 use Rattle.slice_answer.specs.Text.{text_of_evicted}
 use Rattle.slice_answer.specs.declared.answer.Evicted.{Evicted}
 use Rattle.slice_answer.specs.declared.answer.Evicted.TheVariants as evictions
-use Rattle.slice_core_plan.specs.Decision.{decision_of}
-use Rattle.slice_core_plan.specs.View.{View}
-use Rattle.slice_core_steps.specs.declared.core_lines.CoreLines.TheVariants as core_lines
-use Rattle.slice_queues_message.specs.declared.channel.Pick.TheVariants as picks
+use Rattle.slice_core_spec.specs.Decision.{decision_of}
+use Rattle.slice_core_spec.specs.View.{View}
+use Rattle.slice_core_exec.specs.declared.core_lines.CoreLines.TheVariants as core_lines
+use Rattle.slice_queues.specs.declared.channel.Pick.TheVariants as picks
 use Rattle.slice_text.specs.Issue.{event_of, text_of_eviction, text_of_issue}
 use Rattle.slice_text.specs.declared.step.case.Event.TheVariants as events
 use Rattle.slice_text.specs.declared.step.case.Who.TheVariants as whos

@@ -10,10 +10,10 @@ use Rattle.directory_table.specs.declared.state.DirState.{DirState}
 use Rattle.directory_table.specs.declared.state.DirState.TheVariants as dir_states
 use Rattle.slice_core.specs.Facts.{front_at}
 use Rattle.slice_core_cache.specs.CoreCache.{state_of}
-use Rattle.slice_core_plan.specs.View.{View, entry_at, cache_at}
-use Rattle.slice_queues_message.specs.Pick.{channel_of, line_of}
-use Rattle.slice_queues_message.specs.declared.channel.Pick.{Pick}
-use Rattle.slice_queues_message.specs.declared.message.Message.{Message}
+use Rattle.slice_core_spec.specs.View.{View, entry_at, cache_at}
+use Rattle.slice_queues.specs.Pick.{channel_of, line_of}
+use Rattle.slice_queues.specs.declared.channel.Pick.{Pick}
+use Rattle.slice_queues.specs.declared.message.Message.{Message}
 
 -- the state of a core's copy of a line
 abbrev pub copy_at : View → LineAddr → CoreId → CopyState

@@ -13,11 +13,11 @@ use Rattle.slice_answer.specs.declared.answer.Stall.{Stall}
 use Rattle.slice_answer.specs.declared.answer.Stall.TheVariants as stalls
 use Rattle.slice_core_cache.specs.declared.access.AccessKind.TheVariants as access_kinds
 use Rattle.slice_core_cache.specs.declared.access.Placement.TheVariants as placements
-use Rattle.slice_core_plan.specs.View.{View}
-use Rattle.slice_core_plan.specs.declared.decision.Decision.{Decision}
-use Rattle.slice_core_plan.specs.declared.decision.Decision.TheVariants as decisions
-use Rattle.slice_core_steps.specs.CoreLines.{last_written_back, lines_of_core}
-use Rattle.slice_core_steps.specs.declared.core_lines.CoreLines.TheVariants as core_lines
+use Rattle.slice_core_spec.specs.View.{View}
+use Rattle.slice_core_spec.specs.declared.decision.Decision.{Decision}
+use Rattle.slice_core_spec.specs.declared.decision.Decision.TheVariants as decisions
+use Rattle.slice_core_exec.specs.CoreLines.{last_written_back, lines_of_core}
+use Rattle.slice_core_exec.specs.declared.core_lines.CoreLines.TheVariants as core_lines
 
 -- Which copies are in the way of an access, by what is decided of it: for want of a register those that wait, for
 -- want of a way those of its set, for want of room in the write-back buffer those that leave; and the victim of a miss.

@@ -26,11 +26,11 @@ use Rattle.slice_answer.specs.declared.answer.Delivery.{Delivery}
 use Rattle.slice_answer.specs.declared.answer.Delivery.TheVariants as deliveries
 use Rattle.slice_core.specs.declared.run.Call.TheVariants as slice_calls
 use Rattle.slice_core.specs.declared.run.CallAnswer.TheVariants as call_answers
-use Rattle.slice_core_plan.specs.Calls.{PartsView}
-use Rattle.slice_core_plan.specs.View.{View}
-use Rattle.slice_queues_message.specs.Pick.{line_of}
-use Rattle.slice_queues_message.specs.declared.channel.Class.TheVariants as classes
-use Rattle.slice_queues_message.specs.declared.channel.Pick.{Pick}
+use Rattle.slice_core_spec.specs.Calls.{PartsView}
+use Rattle.slice_core_spec.specs.View.{View}
+use Rattle.slice_queues.specs.Pick.{line_of}
+use Rattle.slice_queues.specs.declared.channel.Class.TheVariants as classes
+use Rattle.slice_queues.specs.declared.channel.Pick.{Pick}
 
 -- ---- a step
 

@@ -10,7 +10,7 @@ use Rattle.script_explained.specs.declared.unrest.Unrest.TheVariants as unrests
 use Rattle.litmus_text.specs.Line.{text_of_parts}
 use Rattle.slice_core_cache.specs.CoreCache.{tag_at}
 use Rattle.slice_core_cache.specs.Tags.{is_performed}
-use Rattle.slice_core_plan.specs.View.{View, cache_at}
+use Rattle.slice_core_spec.specs.View.{View, cache_at}
 
 -- the replies of a core that aren't handed out, of these tags
 abbrev pub replies_from : View → CoreId → List ℕ → List Unrest

@@ -7,10 +7,10 @@ ghost use Rattle.script_explained.specs.Delivery.{who_takes};
 ghost use Rattle.script_explained.specs.Step.{IsDelivery, MakesNext};
 ghost use Rattle.slice_core.specs.Facts.{IsSameSlice};
 ghost use Rattle.slice_answer.specs.Text.{text_of_delivered};
-ghost use Rattle.slice_core_plan.specs.Calls.{core_of, next_pick};
+ghost use Rattle.slice_core_spec.specs.Calls.{core_of, next_pick};
 ghost use Rattle.slice_answer.specs.declared.answer.Delivery.TheVariants as deliveries;
-ghost use Rattle.slice_queues_message.specs.Pick.{channel_of};
-ghost use Rattle.slice_queues_message.specs.declared.channel.Class.TheVariants as classes;
+ghost use Rattle.slice_queues.specs.Pick.{channel_of};
+ghost use Rattle.slice_queues.specs.declared.channel.Class.TheVariants as classes;
 
 use super::look;
 use super::step::DeliveryStep;

@@ -13,9 +13,9 @@ use Rattle.script_json.specs.Held.{copies_of, has_message, is_moving, list_of_co
 use Rattle.slice_core.specs.Facts.{AreWaitingAt, ShowsLine}
 use Rattle.slice_core_cache.specs.Copy.{is_gone}
 use Rattle.slice_core_cache.specs.CoreCache.{state_of}
-use Rattle.slice_core_plan.specs.View.{View, entry_at}
-use Rattle.slice_core_steps.specs.declared.line_view.LineView.{LineView}
-use Rattle.slice_queues_message.specs.declared.channel.Channel.{Channel}
+use Rattle.slice_core_spec.specs.View.{View, entry_at}
+use Rattle.slice_core_exec.specs.declared.line_view.LineView.{LineView}
+use Rattle.slice_queues.specs.declared.channel.Channel.{Channel}
 use Rattle.slice_text.specs.Shown.{is_idle}
 
 -- a message of a line waits where a channel of it is among those in which one does

@@ -17,8 +17,8 @@ use Rattle.slice_answer.specs.declared.answer.Refused.TheVariants as refusals
 use Rattle.slice_answer.specs.declared.answer.Stall.{Stall}
 use Rattle.slice_answer.specs.declared.answer.Stall.TheVariants as stalls
 use Rattle.slice_log.specs.declared.entry.Numbered.{Numbered}
-use Rattle.slice_queues_message.specs.declared.channel.Pick.{Pick}
-use Rattle.slice_queues_message.specs.declared.channel.Pick.TheVariants as picks
+use Rattle.slice_queues.specs.declared.channel.Pick.{Pick}
+use Rattle.slice_queues.specs.declared.channel.Pick.TheVariants as picks
 
 -- ---- accesses
 

@@ -9,9 +9,9 @@ use Rattle.litmus_text.specs.Look.{name_of_look, subject_of}
 use Rattle.litmus_text.specs.declared.look.Look.{Look}
 use Rattle.litmus_text.specs.declared.look.Subject.{Subject}
 use Rattle.litmus_text.specs.declared.look.Subject.TheVariants as subjects
-use Rattle.slice_queues_message.specs.Pick.{channel_of, line_of}
-use Rattle.slice_queues_message.specs.declared.channel.Channel.{Channel}
-use Rattle.slice_queues_message.specs.declared.channel.Channel.TheVariants as channels
+use Rattle.slice_queues.specs.Pick.{channel_of, line_of}
+use Rattle.slice_queues.specs.declared.channel.Channel.{Channel}
+use Rattle.slice_queues.specs.declared.channel.Channel.TheVariants as channels
 
 -- what an access asks for, with its operands
 abbrev pub text_of_op : Op → List ℕ

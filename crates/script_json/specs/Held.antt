@@ -13,8 +13,8 @@ use Rattle.script_json.specs.declared.held.Choice.TheVariants as choices
 use Rattle.slice_core.specs.Facts.{copy_at}
 use Rattle.slice_core_cache.specs.Copy.{is_gone}
 use Rattle.slice_core_cache.specs.declared.copy.CacheCopy.{CacheCopy}
-use Rattle.slice_core_plan.specs.Calls.{PartsView}
-use Rattle.slice_core_plan.specs.View.{View, channels_at}
+use Rattle.slice_core_spec.specs.Calls.{PartsView}
+use Rattle.slice_core_spec.specs.View.{View, channels_at}
 use Rattle.slice_json.specs.Copy.{text_of_copy}
 use Rattle.slice_json.specs.Line.{text_of_line}
 use Rattle.slice_queues.specs.Waiting.{line_waiting}

@@ -6,8 +6,8 @@ use Rattle.litmus_text.specs.JsonList.{with_commas}
 use Rattle.slice_core_cache.specs.CoreCache.{tag_at}
 use Rattle.slice_core_cache.specs.declared.tags.TagState.{TagState}
 use Rattle.slice_core_cache.specs.declared.tags.TagState.TheVariants as tag_states
-use Rattle.slice_core_plan.specs.Parts.{PartsView, ring_lines}
-use Rattle.slice_core_plan.specs.View.{View, cache_at}
+use Rattle.slice_core_spec.specs.Parts.{PartsView, ring_lines}
+use Rattle.slice_core_spec.specs.View.{View, cache_at}
 
 -- ---- replies that aren't handed out
 

@@ -27,8 +27,8 @@ use Rattle.script_json.specs.Held.{lines_from}
 use Rattle.script_json.specs.Slices.{texts_of_slices}
 use Rattle.script_json.specs.Value.{item_of, items_of_lines, object_of}
 use Rattle.script_json.specs.declared.held.Choice.TheVariants as choices
-use Rattle.slice_core_plan.specs.Calls.{PartsView}
-use Rattle.slice_core_plan.specs.View.{View}
+use Rattle.slice_core_spec.specs.Calls.{PartsView}
+use Rattle.slice_core_spec.specs.View.{View}
 use Rattle.slice_text.specs.Issue.{text_of_eviction, text_of_issue}
 
 -- ---- a step

@@ -8,7 +8,7 @@ use litmus_script::{Issued, Pumped};
 use litmus_text::Number;
 use slice_answer::{Cell, Delivered, Evicted};
 use slice_log::Numbered;
-use slice_queues_message::Pick;
+use slice_queues::Pick;
 use std::fmt;
 
 /// What became of a command.

@@ -7,7 +7,7 @@ ghost use Rattle.script_json.specs.Call.{text_of_call};
 use address_map::{CoreId, LineAddr, Op, SliceId, WordAddr};
 use litmus_script::TextWriter;
 use litmus_text::{Command, Look, Number, Subject, TextFault};
-use slice_queues_message::Channel;
+use slice_queues::Channel;
 use std::fmt;
 use std::io::Write;
 

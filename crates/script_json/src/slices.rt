@@ -5,7 +5,7 @@ ghost use Rattle.litmus_text.specs.JsonList.{with_commas};
 ghost use Rattle.script_json.specs.Slices.{list_of_replies, list_of_ring, text_of_number, text_of_reply, text_of_slice};
 ghost use Rattle.script_json.specs.Slices.{texts_of_slices};
 ghost use Rattle.slice_core_cache.specs.CoreCache.{tag_at};
-ghost use Rattle.slice_core_plan.specs.View.{cache_at};
+ghost use Rattle.slice_core_spec.specs.View.{cache_at};
 ghost use Rattle.slice_text.specs.Shown.{HaveCores};
 
 use address_map::{Checked, CoreId, LineAddr};

@@ -26,7 +26,7 @@ use script_explained::{
     AccessStep, DeliveryStep, EvictionStep, Explaining, HandStep, Step, StepWriter, Unrest,
     WordStep,
 };
-use slice_queues_message::Pick;
+use slice_queues::Pick;
 use stats_report::write_text;
 use std::alloc::Global;
 use std::io::Write;

@@ -45,25 +45,25 @@ use Rattle.slice_core_theory.proofs.Planned.{IsFor, is_for}
 use Rattle.slice_core_theory.proofs.Settling.{ack_comes, data_comes, filled-state}
 use Rattle.slice_core_theory.proofs.Victims.{has_victim_for}
 use Rattle.slice_core_theory.specs.Whole.{IsWhole}
-use Rattle.slice_core_plan.specs.Calls.{PartsView, AfterAccepting, AfterAccess, AfterDelivery, AfterEvict}
-use Rattle.slice_core_plan.specs.Calls.{AfterHand, AfterIssue, AfterPlan, IsAccepted, LacksMemory, local_in}
-use Rattle.slice_core_plan.specs.Decision.{decision_at, decision_of, is_counter, overwrites}
-use Rattle.slice_core_plan.specs.Plan.{ack_move, directory_move, fill_move, forwarded_move, home_move, plan_of, planned_in}
-use Rattle.slice_core_plan.specs.Steps.{after_evict, after_open}
-use Rattle.slice_core_plan.specs.View.{View, cache_at, channels_at}
-use Rattle.slice_core_plan.specs.declared.decision.Decision.{Decision}
-use Rattle.slice_core_plan.specs.declared.decision.Decision.TheVariants as decisions
-use Rattle.slice_core_plan.specs.declared.transition.Transition.TheVariants as transitions
-use Rattle.slice_core_plan.specs.declared.transition.Transition.{Transition}
-use Rattle.slice_core_steps.specs.CoreLines.{last_written_back}
+use Rattle.slice_core_spec.specs.Calls.{PartsView, AfterAccepting, AfterAccess, AfterDelivery, AfterEvict}
+use Rattle.slice_core_spec.specs.Calls.{AfterHand, AfterIssue, AfterPlan, IsAccepted, LacksMemory, local_in}
+use Rattle.slice_core_spec.specs.Decision.{decision_at, decision_of, is_counter, overwrites}
+use Rattle.slice_core_spec.specs.Plan.{ack_move, directory_move, fill_move, forwarded_move, home_move, plan_of, planned_in}
+use Rattle.slice_core_spec.specs.Steps.{after_evict, after_open}
+use Rattle.slice_core_spec.specs.View.{View, cache_at, channels_at}
+use Rattle.slice_core_spec.specs.declared.decision.Decision.{Decision}
+use Rattle.slice_core_spec.specs.declared.decision.Decision.TheVariants as decisions
+use Rattle.slice_core_spec.specs.declared.transition.Transition.TheVariants as transitions
+use Rattle.slice_core_spec.specs.declared.transition.Transition.{Transition}
+use Rattle.slice_core_exec.specs.CoreLines.{last_written_back}
 use Rattle.slice_log.specs.declared.entry.Numbered.{Numbered}
 use Rattle.slice_queues.specs.Line.{core_at}
 use Rattle.slice_queues.specs.Ring.{with_listed}
-use Rattle.slice_queues_message.specs.Pick.{channel_of, line_of as line_of_pick}
-use Rattle.slice_queues_message.specs.declared.channel.Channel.{Channel}
-use Rattle.slice_queues_message.specs.declared.channel.Channel.TheVariants as channels
-use Rattle.slice_queues_message.specs.declared.channel.Pick.{Pick}
-use Rattle.slice_queues_message.specs.declared.channel.Pick.TheVariants as picks
+use Rattle.slice_queues.specs.Pick.{channel_of, line_of as line_of_pick}
+use Rattle.slice_queues.specs.declared.channel.Channel.{Channel}
+use Rattle.slice_queues.specs.declared.channel.Channel.TheVariants as channels
+use Rattle.slice_queues.specs.declared.channel.Pick.{Pick}
+use Rattle.slice_queues.specs.declared.channel.Pick.TheVariants as picks
 use Rattle.mshr_file.specs.declared.registers.Register.{Register}
 
 -- ---- requests

@@ -36,11 +36,11 @@ use Rattle.slice_answer.specs.declared.answer.Refused.{Refused}
 use Rattle.slice_core.proofs.SameSlice.{same-issue}
 use Rattle.slice_core.specs.Facts.{Holds}
 use Rattle.slice_core_theory.specs.Whole.{IsWhole}
-use Rattle.slice_core_plan.specs.Calls.{PartsView, AfterDelivery, AfterEvict, AfterHand, AfterIssue}
-use Rattle.slice_core_plan.specs.View.{View}
+use Rattle.slice_core_spec.specs.Calls.{PartsView, AfterDelivery, AfterEvict, AfterHand, AfterIssue}
+use Rattle.slice_core_spec.specs.View.{View}
 use Rattle.slice_log.specs.declared.entry.Numbered.{Numbered}
-use Rattle.slice_queues_message.specs.Pick.{line_of as line_of_pick}
-use Rattle.slice_queues_message.specs.declared.channel.Pick.{Pick}
+use Rattle.slice_queues.specs.Pick.{line_of as line_of_pick}
+use Rattle.slice_queues.specs.declared.channel.Pick.{Pick}
 
 -- ---- places and lines
 

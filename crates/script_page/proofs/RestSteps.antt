@@ -32,11 +32,11 @@ use Rattle.slice_core_theory.proofs.Accesses.{HasPlace, HasPlaceFor, HasVictimFo
 use Rattle.slice_core_theory.proofs.Accesses.{opens}
 use Rattle.slice_core_theory.proofs.Frame.{by_number, read-set}
 use Rattle.slice_core_theory.proofs.Settling.{waits-held}
-use Rattle.slice_core_plan.specs.Steps.{after_directory, after_evict, after_forwarded, after_hand, after_hit, after_home}
-use Rattle.slice_core_plan.specs.Steps.{after_join, after_open, after_opening, after_settling, with_way}
-use Rattle.slice_core_plan.specs.View.{View, IsShaped, cache_at, channels_at, entry_at, no_cache, no_entry}
+use Rattle.slice_core_spec.specs.Steps.{after_directory, after_evict, after_forwarded, after_hand, after_hit, after_home}
+use Rattle.slice_core_spec.specs.Steps.{after_join, after_open, after_opening, after_settling, with_way}
+use Rattle.slice_core_spec.specs.View.{View, IsShaped, cache_at, channels_at, entry_at, no_cache, no_entry}
 use Rattle.slice_queues.specs.Line.{empty_line}
-use Rattle.slice_queues_message.specs.declared.channel.Channel.{Channel}
+use Rattle.slice_queues.specs.declared.channel.Channel.{Channel}
 
 -- The view went from the one to the other, and only lines At these places, and one core, can have changed.
 pub record Leaves (At : ℕ → Type 0) (core : Option CoreId) (old new : View) : Type 0 where

@@ -11,9 +11,9 @@ use Rattle.script_page.specs.declared.scope.Scope.{Scope}
 use Rattle.slice_core_cache.specs.CoreCache.{tag_at}
 use Rattle.slice_core_cache.specs.declared.tags.TagState.{TagState}
 use Rattle.slice_core_cache.specs.declared.tags.TagState.TheVariants as tag_states
-use Rattle.slice_core_plan.specs.View.{View, cache_at}
-use Rattle.slice_core_steps.specs.CoreLines.{last_written_back, lines_of_core}
-use Rattle.slice_core_steps.specs.declared.core_lines.CoreLines.TheVariants as core_lines
+use Rattle.slice_core_spec.specs.View.{View, cache_at}
+use Rattle.slice_core_exec.specs.CoreLines.{last_written_back, lines_of_core}
+use Rattle.slice_core_exec.specs.declared.core_lines.CoreLines.TheVariants as core_lines
 
 -- the slice doesn't know the core
 abbrev pub lacks : View → CoreId → Bool

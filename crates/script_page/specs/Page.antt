@@ -24,7 +24,7 @@ use Rattle.script_page.specs.declared.frame.marks.TheConstants.{MARKS}
 use Rattle.script_page.specs.declared.frame.place.TheConstants.{PLACE}
 use Rattle.script_page.specs.declared.frame.run.TheConstants.{RUN}
 use Rattle.script_page.specs.declared.frame.time.TheConstants.{TIME}
-use Rattle.slice_core_plan.specs.Calls.{PartsView}
+use Rattle.slice_core_spec.specs.Calls.{PartsView}
 
 -- what is before the steps: the script itself, and the protocol's tables
 abbrev pub text_of_begin : List ℕ → List ℕ

@@ -13,8 +13,8 @@ use Rattle.script_page.specs.Core.{victim_of}
 use Rattle.script_page.specs.declared.scope.Scope.{Scope}
 use Rattle.slice_core.specs.Facts.{Holds}
 use Rattle.slice_core_cache.specs.CoreCache.{copy_of}
-use Rattle.slice_core_plan.specs.Calls.{PartsView}
-use Rattle.slice_core_plan.specs.View.{View, cache_at, channels_at, entry_at}
+use Rattle.slice_core_spec.specs.Calls.{PartsView}
+use Rattle.slice_core_spec.specs.View.{View, cache_at, channels_at, entry_at}
 
 -- the step of a command with this scope gives the line, after which the slice is this one
 abbrev pub Gives : Scope → View → LineAddr → Type 0

@@ -8,9 +8,9 @@ use Rattle.litmus_text.specs.Look.{line_of_look}
 use Rattle.litmus_text.specs.declared.command.Command.{Command}
 use Rattle.litmus_text.specs.declared.command.Command.TheVariants as commands
 use Rattle.script_page.specs.declared.scope.Scope.{Scope}
-use Rattle.slice_queues_message.specs.Pick.{line_of}
-use Rattle.slice_queues_message.specs.declared.channel.Pick.{Pick}
-use Rattle.slice_queues_message.specs.declared.channel.Pick.TheVariants as picks
+use Rattle.slice_queues.specs.Pick.{line_of}
+use Rattle.slice_queues.specs.declared.channel.Pick.{Pick}
+use Rattle.slice_queues.specs.declared.channel.Pick.TheVariants as picks
 
 -- the core that takes the messages of a channel: none where the directory does
 abbrev pub taker_of : Pick → Option CoreId

@@ -19,10 +19,10 @@ use Rattle.script_page.specs.declared.call.Planned.{Planned}
 use Rattle.script_page.specs.declared.scope.Scope.{Scope}
 use Rattle.slice_answer.specs.declared.answer.Delivery.{Delivery}
 use Rattle.slice_answer.specs.declared.answer.Delivery.TheVariants as deliveries
-use Rattle.slice_core_plan.specs.Calls.{PartsView, next_pick}
-use Rattle.slice_core_plan.specs.declared.transition.Transition.{Transition}
-use Rattle.slice_queues_message.specs.declared.channel.Class.TheVariants as classes
-use Rattle.slice_queues_message.specs.declared.channel.Pick.{Pick}
+use Rattle.slice_core_spec.specs.Calls.{PartsView, next_pick}
+use Rattle.slice_core_spec.specs.declared.transition.Transition.{Transition}
+use Rattle.slice_queues.specs.declared.channel.Class.TheVariants as classes
+use Rattle.slice_queues.specs.declared.channel.Pick.{Pick}
 use Rattle.slice_text.specs.declared.step.delivery.ExplainedDelivery.{ExplainedDelivery}
 
 -- ---- what a step says

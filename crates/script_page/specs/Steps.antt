@@ -11,7 +11,7 @@ use Rattle.script_explained.specs.declared.step.Step.{Step}
 use Rattle.script_explained.specs.declared.step.Step.TheVariants as steps
 use Rattle.script_page.specs.Step.{WritesStep}
 use Rattle.litmus_text.specs.Line.{text_of_parts}
-use Rattle.slice_core_plan.specs.Calls.{PartsView}
+use Rattle.slice_core_spec.specs.Calls.{PartsView}
 
 -- The step of a command is written: its answer told with what happened, and the slices as they are then. Its place in
 -- the script isn't said here.

@@ -1,7 +1,7 @@
 //! A command as data, and what is planned for the message that it delivers.
 ghost use Rattle.std.specs.Prelude.{◌≡◌};
-ghost use Rattle.slice_core_plan.specs.Calls.{core_of};
-ghost use Rattle.slice_queues_message.specs.Pick.{channel_of};
+ghost use Rattle.slice_core_spec.specs.Calls.{core_of};
+ghost use Rattle.slice_queues.specs.Pick.{channel_of};
 
 use address_map::{CoreId, LineAddr, SliceId};
 use directory_table::DirSends;
@@ -164,8 +164,8 @@ struct Forwards {
 impl fmt::Display for Forwards {
     ghost use Rattle.std.specs.Prelude.{Some};
     ghost use Rattle.script_page.specs.Call.{text_of_forwards};
-    ghost use Rattle.slice_core_plan.specs.Calls.{core_of};
-    ghost use Rattle.slice_queues_message.specs.Pick.{channel_of};
+    ghost use Rattle.slice_core_spec.specs.Calls.{core_of};
+    ghost use Rattle.slice_queues.specs.Pick.{channel_of};
 
     ghost output = { λ sent. Some (text_of_forwards (core_of (channel_of sent.pick)) sent.sends) };
 

@@ -12,7 +12,7 @@ ghost use Rattle.protocol_tables.specs.Cache.{table_of as cache_table};
 ghost use Rattle.protocol_tables.specs.Directory.{table_of as directory_table};
 ghost use Rattle.script_page.specs.Page.{HasSteps, IsPage, IsPageFault, IsPageOf, PageStopsAt, code_if};
 ghost use Rattle.script_page.specs.Page.{code_of_diagram, code_of_page, text_of_begin, text_of_end};
-ghost use Rattle.slice_core_plan.specs.Calls.{PartsView};
+ghost use Rattle.slice_core_spec.specs.Calls.{PartsView};
 
 use super::core_part::write_whole;
 use super::frame::arrows::ARROWS;

@@ -12,8 +12,8 @@ ghost use Rattle.script_page.specs.Rest.{AreSlices, KeepsRest, LeavesRest};
 ghost use Rattle.script_page.specs.Scope.{scope_of};
 ghost use Rattle.script_page.specs.declared.scope.Scope.{Scope};
 ghost use Rattle.slice_answer.specs.declared.answer.Delivery.TheVariants as deliveries;
-ghost use Rattle.slice_core_plan.specs.Calls.{PartsView};
-ghost use Rattle.slice_queues_message.specs.declared.channel.Pick.{Pick};
+ghost use Rattle.slice_core_spec.specs.Calls.{PartsView};
+ghost use Rattle.slice_queues.specs.declared.channel.Pick.{Pick};
 
 /// What the step of a command doesn't give is as it was, and so is what the step of a pump's delivery doesn't give: so
 /// what was given last of a line and of a core's copy is what the machine has.

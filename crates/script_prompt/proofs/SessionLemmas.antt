@@ -4,7 +4,7 @@ use Rattle.std.specs.Str.Lines.{lines}
 use Rattle.address_map.specs.declared.config.Config.{Config}
 use Rattle.litmus_text.specs.Statement.{kept_words}
 use Rattle.litmus_text.specs.declared.command.Command.{Command}
-use Rattle.slice_core_plan.specs.Calls.{PartsView}
+use Rattle.slice_core_spec.specs.Calls.{PartsView}
 use Rattle.script_prompt.specs.Session.{IsContinued, PlaysLine, PlaysLines}
 
 -- nothing is played

@@ -2,11 +2,11 @@
 use Rattle.std.specs.Prelude.{List, [], ◌∷◌, Option, None, Some, slice_get}
 use Rattle.std.specs.Option.{option_map_or}
 use Rattle.address_map.specs.declared.address.SliceId.{SliceId}
-use Rattle.slice_core_plan.specs.Calls.{PartsView, next_pick}
-use Rattle.slice_queues_message.specs.declared.channel.Class.TheVariants as classes
+use Rattle.slice_core_spec.specs.Calls.{PartsView, next_pick}
+use Rattle.slice_queues.specs.declared.channel.Class.TheVariants as classes
 use Rattle.slice_answer.specs.declared.answer.Delivery.TheVariants as deliveries
 use Rattle.slice_answer.specs.declared.answer.Delivery.{Delivery}
-use Rattle.slice_queues_message.specs.declared.channel.Pick.{Pick}
+use Rattle.slice_queues.specs.declared.channel.Pick.{Pick}
 
 -- What is said of slices of which the first comes to this, and the others to that: the first delivery that can be made,
 -- or else what is said of the first slice in which a message waits.

@@ -11,7 +11,7 @@ use Rattle.litmus_text.specs.Statement.{kept_words, statements_from}
 use Rattle.litmus_text.specs.declared.command.Command.{Command}
 use Rattle.mshr_file.specs.Miss.{Bound}
 use Rattle.script_explained.specs.Explains.{Explainingly}
-use Rattle.slice_core_plan.specs.Calls.{PartsView}
+use Rattle.slice_core_spec.specs.Calls.{PartsView}
 use Rattle.script_prompt.specs.declared.session.Session.{Session}
 
 -- The words write this command. It is done, its answer is printed with what happened, and the script goes on with the

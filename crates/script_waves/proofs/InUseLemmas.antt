@@ -7,9 +7,9 @@ use Rattle.std.specs.Io.KnownBytes.{Appends}
 use Rattle.std.specs.List.{flat_map, range_with_len}
 use Rattle.address_map.specs.declared.address.CoreId.{CoreId}
 use Rattle.script_waves.specs.declared.in_use.InUse.{InUse}
-use Rattle.slice_core_plan.specs.View.{View, cache_at}
-use Rattle.slice_core_steps.specs.CoreLines.{lines_of_core}
-use Rattle.slice_core_steps.specs.declared.core_lines.CoreLines.TheVariants as core_lines
+use Rattle.slice_core_spec.specs.View.{View, cache_at}
+use Rattle.slice_core_exec.specs.CoreLines.{lines_of_core}
+use Rattle.slice_core_exec.specs.declared.core_lines.CoreLines.TheVariants as core_lines
 
 module _ {Y : Type 0} (all : List ℕ → Y) (n i : ℕ) where
   -- the numbers that are left begin with the next

@@ -23,11 +23,11 @@ use Rattle.script_waves.specs.Waves.{IsShown, IsTick, Shown, ShowsNext, Ticks, n
 use Rattle.slice_answer.specs.declared.answer.Delivery.TheVariants as deliveries
 use Rattle.slice_answer.specs.declared.answer.Delivery.{Delivery}
 use Rattle.slice_core.specs.Facts.{AreWaitingAt, ShowsLine}
-use Rattle.slice_core_plan.specs.Calls.{PartsView}
-use Rattle.slice_core_plan.specs.View.{View}
-use Rattle.slice_core_steps.specs.declared.line_view.LineView.{LineView}
-use Rattle.slice_queues_message.specs.declared.channel.Channel.{Channel}
-use Rattle.slice_queues_message.specs.declared.channel.Pick.{Pick}
+use Rattle.slice_core_spec.specs.Calls.{PartsView}
+use Rattle.slice_core_spec.specs.View.{View}
+use Rattle.slice_core_exec.specs.declared.line_view.LineView.{LineView}
+use Rattle.slice_queues.specs.declared.channel.Channel.{Channel}
+use Rattle.slice_queues.specs.declared.channel.Pick.{Pick}
 
 on_ok_from : {A E P : Type 0} (r : Result A E) → (IsOk r → P) → OnOk r P
 on_ok_from (Ok x) holds = holds refl

@@ -9,8 +9,8 @@ use Rattle.script_waves.specs.declared.signal.Use.TheVariants as uses
 use Rattle.slice_core_cache.specs.CoreCache.{CoreCacheView, tag_at}
 use Rattle.slice_core_cache.specs.declared.tags.TagState.{TagState}
 use Rattle.slice_core_cache.specs.declared.tags.TagState.TheVariants as tag_states
-use Rattle.slice_core_plan.specs.Calls.{PartsView}
-use Rattle.slice_core_plan.specs.View.{View, cache_at}
+use Rattle.slice_core_spec.specs.Calls.{PartsView}
+use Rattle.slice_core_spec.specs.View.{View, cache_at}
 
 -- a tag that names an access which waits counts for one
 abbrev pub open_of : TagState → ℕ

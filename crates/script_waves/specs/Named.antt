@@ -7,7 +7,7 @@ use Rattle.litmus_text.specs.Command.{HasLine}
 use Rattle.litmus_text.specs.Look.{line_of_look}
 use Rattle.litmus_text.specs.declared.command.Command.{Command}
 use Rattle.litmus_text.specs.declared.command.Command.TheVariants as commands
-use Rattle.slice_queues_message.specs.Pick.{line_of}
+use Rattle.slice_queues.specs.Pick.{line_of}
 
 -- the line that a command is about, if it is about one
 abbrev pub line_named : Command → Option LineAddr

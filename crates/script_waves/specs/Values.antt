@@ -14,11 +14,11 @@ use Rattle.directory_table.specs.declared.state.DirState.{DirState}
 use Rattle.script_waves.specs.Signals.{code_of}
 use Rattle.script_waves.specs.declared.signal.Signal.TheVariants as signals
 use Rattle.slice_core_cache.specs.CoreCache.{state_of}
-use Rattle.slice_core_plan.specs.Calls.{PartsView}
-use Rattle.slice_core_plan.specs.View.{View, channels_at, entry_at}
+use Rattle.slice_core_spec.specs.Calls.{PartsView}
+use Rattle.slice_core_spec.specs.View.{View, channels_at, entry_at}
 use Rattle.slice_queues.specs.Waiting.{line_waiting}
-use Rattle.slice_queues_message.specs.declared.channel.Channel.{Channel}
-use Rattle.slice_queues_message.specs.declared.channel.Channel.TheVariants as channels
+use Rattle.slice_queues.specs.declared.channel.Channel.{Channel}
+use Rattle.slice_queues.specs.declared.channel.Channel.TheVariants as channels
 
 -- ---- the channels in which a message waits, as one word
 

@@ -24,8 +24,8 @@ use Rattle.script_waves.specs.Values.{text_of_command, text_of_lines, text_of_ti
 use Rattle.litmus_text.specs.Line.{text_of_parts}
 use Rattle.slice_answer.specs.declared.answer.Delivery.TheVariants as deliveries
 use Rattle.slice_answer.specs.declared.answer.Delivery.{Delivery}
-use Rattle.slice_core_plan.specs.Calls.{PartsView}
-use Rattle.slice_queues_message.specs.declared.channel.Pick.{Pick}
+use Rattle.slice_core_spec.specs.Calls.{PartsView}
+use Rattle.slice_queues.specs.declared.channel.Pick.{Pick}
 
 -- what is known of a run: the machine's slices, the lines that were named, how many commands were played and deliveries of
 -- pumps made, and the values that follow the last

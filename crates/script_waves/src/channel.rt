@@ -6,7 +6,7 @@ ghost use Rattle.script_waves.specs.Values.{name_of_channel, names_of, text_behi
 
 use address_map::CoreId;
 use slice_core::LineWaiting;
-use slice_queues_message::Channel;
+use slice_queues::Channel;
 use std::fmt;
 use std::fmt::Write;
 

@@ -40,7 +40,7 @@ fn write_ascii<W: Write>(byte: u8, out: &mut W) -> fmt::Result
     out.write_char(byte as char)
 }
 
-/// What is no printed ASCII shows as a line below.
+/// A byte that isn't printable ASCII is written as `_`.
 fn shown(byte: u8) -> u8
     ensures shown { result ≡ byte_shown byte }
     ensures ascii { result < 128 }

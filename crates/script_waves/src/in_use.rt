@@ -7,7 +7,7 @@ ghost use Rattle.litmus_script.specs.Play.{IsOfRun};
 ghost use Rattle.script_waves.specs.InUse.{in_use, open_of, text_of_core_use, text_of_count};
 ghost use Rattle.script_waves.specs.InUse.{target_count, text_of_slice_use, text_of_use, text_of_uses};
 ghost use Rattle.slice_core_cache.specs.CoreCache.{tag_at};
-ghost use Rattle.slice_core_plan.specs.View.{cache_at};
+ghost use Rattle.slice_core_spec.specs.View.{cache_at};
 
 use super::signal::{Use, UseCode};
 use address_map::{Checked, CoreId};

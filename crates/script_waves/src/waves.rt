@@ -11,7 +11,7 @@ ghost use Rattle.litmus_text.specs.Statement.{statements_from};
 ghost use Rattle.script_waves.specs.Signals.{text_of_header};
 ghost use Rattle.script_waves.specs.Values.{text_of_time};
 ghost use Rattle.script_waves.specs.Waves.{HasWaves, IsWaves, IsWavesFault, IsWavesOf, IsWritten, WavesStopAt, next};
-ghost use Rattle.slice_core_plan.specs.Calls.{PartsView};
+ghost use Rattle.slice_core_spec.specs.Calls.{PartsView};
 
 use super::command::write_time;
 use super::header::write_header;

@@ -20,11 +20,11 @@ use Rattle.script_coverage.specs.declared.table_cell.TableState.TheVariants as t
 use Rattle.script_explained.specs.Delivery.{case_at}
 use Rattle.script_explained.specs.Issue.{issue_at}
 use Rattle.script_explained.specs.Look.{copy_at}
-use Rattle.slice_core_plan.specs.Calls.{PartsView}
-use Rattle.slice_core_plan.specs.Plan.{planned_at}
-use Rattle.slice_core_plan.specs.View.{View}
-use Rattle.slice_queues_message.specs.Pick.{line_of}
-use Rattle.slice_queues_message.specs.declared.channel.Pick.{Pick}
+use Rattle.slice_core_spec.specs.Calls.{PartsView}
+use Rattle.slice_core_spec.specs.Plan.{planned_at}
+use Rattle.slice_core_spec.specs.View.{View}
+use Rattle.slice_queues.specs.Pick.{line_of}
+use Rattle.slice_queues.specs.declared.channel.Pick.{Pick}
 
 -- of an access, as it is decided
 abbrev pub cell_of_issue : View → CoreId → Request → Option Cell

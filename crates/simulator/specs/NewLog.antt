@@ -3,7 +3,7 @@ use Rattle.std.specs.Prelude.{ℕ, Bool, List, Result}
 use Rattle.std.specs.declared.alloc.AllocError.{AllocError}
 use Rattle.litmus_script.specs.Machine.{OneSlice}
 use Rattle.slice_core.specs.NewLog.{AfterBeginLog, BeginsAnewIf}
-use Rattle.slice_core_plan.specs.Calls.{PartsView}
+use Rattle.slice_core_spec.specs.Calls.{PartsView}
 
 -- the slice answered so, and left this; where it begins anew, to somebody who sees only requests and replies it is one
 -- of which nothing was asked yet

@@ -7,7 +7,7 @@ use Rattle.mshr_file.specs.Miss.{bound_of}
 use Rattle.litmus_text.specs.declared.fault.TextFault.{TextFault}
 use Rattle.litmus_text.specs.declared.fault.TextFault.TheVariants as text_faults
 use Rattle.litmus_text.specs.declared.settings.Settings.{Settings}
-use Rattle.slice_core_plan.specs.Calls.{PartsView}
+use Rattle.slice_core_spec.specs.Calls.{PartsView}
 use Rattle.simulator.specs.declared.simulator.Simulator.{Simulator}
 
 -- the shape of the machine

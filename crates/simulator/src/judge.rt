@@ -69,7 +69,7 @@ impl TraceJudge {
             ((init : List (WordAddr × ℕ)) (entries : List Entry) → Stands self.old init entries
             → Stands self.new init (entries ++ entry.now ∷ [])) }
     {
-        // so many entries are in no memory
+        // 2^64 entries fit no memory
         let Some(entries) = self.entries.checked_add(1) else {
             return Err(AllocError);
         };

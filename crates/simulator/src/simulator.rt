@@ -11,13 +11,13 @@ ghost use Rattle.simulator.specs.Simulator.{IsCopyOf, IsNewSimulator, IsNotBuilt
 ghost use Rattle.slice_core.specs.Facts.{copy_at, targets_at};
 ghost use Rattle.slice_core.specs.declared.run.Call.TheVariants as slice_calls;
 ghost use Rattle.slice_core.specs.declared.run.CallAnswer.TheVariants as call_answers;
-ghost use Rattle.slice_core_plan.specs.Calls.{next_pick};
-ghost use Rattle.slice_core_plan.specs.Decision.{decision_of};
-ghost use Rattle.slice_core_plan.specs.Plan.{planned_at};
-ghost use Rattle.slice_core_plan.specs.View.{IsQuiet};
-ghost use Rattle.slice_core_steps.specs.CoreLines.{lines_of_core};
-ghost use Rattle.slice_core_steps.specs.declared.core_lines.CoreLines.TheVariants as core_lines;
-ghost use Rattle.slice_queues_message.specs.Pick.{line_of};
+ghost use Rattle.slice_core_spec.specs.Calls.{next_pick};
+ghost use Rattle.slice_core_spec.specs.Decision.{decision_of};
+ghost use Rattle.slice_core_spec.specs.Plan.{planned_at};
+ghost use Rattle.slice_core_spec.specs.View.{IsQuiet};
+ghost use Rattle.slice_core_exec.specs.CoreLines.{lines_of_core};
+ghost use Rattle.slice_core_exec.specs.declared.core_lines.CoreLines.TheVariants as core_lines;
+ghost use Rattle.slice_queues.specs.Pick.{line_of};
 
 use super::looks::MissRegister;
 use super::{cells, looks};

@@ -1,7 +1,7 @@
 ghost use Rattle.std.specs.Prelude.{◌≡◌, Some};
 ghost use Rattle.slice_answer.specs.Delivery.{better_of, delivered_with, delivery_with, IfMoved, IsMappedBy};
 
-use slice_queues_message::Pick;
+use slice_queues::Pick;
 use std::fmt;
 
 /// Why a request was refused: it is faulty, or can't be kept. Nothing has changed.

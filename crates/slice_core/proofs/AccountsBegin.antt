@@ -13,8 +13,8 @@ use Rattle.address_map.specs.declared.config.Config.{Config}
 use Rattle.mshr_file.specs.Miss.{Bound}
 use Rattle.slice_answer.specs.Stats.{StatsView, accepted_of, counts_of, no_counts}
 use Rattle.slice_log.proofs.Pushes.{IsOrdered-nil}
-use Rattle.slice_core_plan.specs.Calls.{PartsView, IsNew}
-use Rattle.slice_core_plan.specs.View.{channels_at, no_cache, cache_at, IsShaped}
+use Rattle.slice_core_spec.specs.Calls.{PartsView, IsNew}
+use Rattle.slice_core_spec.specs.View.{channels_at, no_cache, cache_at, IsShaped}
 use Rattle.slice_core_cache.specs.CoreCache.{CoreCacheView, new_cache}
 use Rattle.slice_core_theory.proofs.Begins.{account-begins}
 use Rattle.slice_core_theory.specs.Standing.{target_count}

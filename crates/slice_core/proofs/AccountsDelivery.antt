@@ -13,13 +13,13 @@ use Rattle.mshr_file.specs.Miss.{targets_of}
 use Rattle.slice_answer.specs.Stats.{after_message}
 use Rattle.slice_answer.specs.declared.answer.Delivered.{Delivered}
 use Rattle.slice_answer.specs.declared.answer.Delivered.TheVariants as delivered
-use Rattle.slice_core_plan.specs.Calls.{PartsView, core_of, filled_by, AfterDeliverNext, AfterDelivery, AfterPlan}
-use Rattle.slice_core_plan.specs.Calls.{Settles, local_in, IsDone, Moves}
-use Rattle.slice_core_plan.specs.Plan.{plan_of, planned_in}
-use Rattle.slice_core_plan.specs.Sends.{cache_sent, directory_sent}
-use Rattle.slice_core_plan.specs.Steps.{asked_by, after_directory, after_forwarded, after_home, after_settling}
-use Rattle.slice_core_plan.specs.View.{View, channels_at, entry_at, first_word, cache_at, with_entry, with_cache}
-use Rattle.slice_core_plan.specs.View.{IsShaped}
+use Rattle.slice_core_spec.specs.Calls.{PartsView, core_of, filled_by, AfterDeliverNext, AfterDelivery, AfterPlan}
+use Rattle.slice_core_spec.specs.Calls.{Settles, local_in, IsDone, Moves}
+use Rattle.slice_core_spec.specs.Plan.{plan_of, planned_in}
+use Rattle.slice_core_spec.specs.Sends.{cache_sent, directory_sent}
+use Rattle.slice_core_spec.specs.Steps.{asked_by, after_directory, after_forwarded, after_home, after_settling}
+use Rattle.slice_core_spec.specs.View.{View, channels_at, entry_at, first_word, cache_at, with_entry, with_cache}
+use Rattle.slice_core_spec.specs.View.{IsShaped}
 use Rattle.slice_core_cache.specs.Copy.{is_gone, no_copy}
 use Rattle.slice_core_cache.specs.Perform.{asks_to_write, entries_of, performed_in, tags_after}
 use Rattle.slice_core_cache.specs.CoreCache.{CoreCacheView, array_copy, copy_of}
@@ -34,16 +34,16 @@ use Rattle.slice_core.proofs.CountedStats.{counts-same, same-message}
 use Rattle.slice_core.proofs.CountedSteps.{after_step, shaped-channels, shaped-entry}
 use Rattle.slice_core.specs.Sound.{IsSound}
 use Rattle.slice_queues.specs.Line.{after_take, core_at}
-use Rattle.slice_queues_message.specs.Pick.{channel_of, line_of}
-use Rattle.slice_queues_message.specs.declared.channel.Channel.{Channel}
-use Rattle.slice_queues_message.specs.declared.channel.Channel.TheVariants as channels
-use Rattle.slice_queues_message.specs.declared.channel.Class.{Class}
-use Rattle.slice_queues_message.specs.declared.channel.Pick.{Pick}
+use Rattle.slice_queues.specs.Pick.{channel_of, line_of}
+use Rattle.slice_queues.specs.declared.channel.Channel.{Channel}
+use Rattle.slice_queues.specs.declared.channel.Channel.TheVariants as channels
+use Rattle.slice_queues.specs.declared.channel.Class.{Class}
+use Rattle.slice_queues.specs.declared.channel.Pick.{Pick}
 use Rattle.slice_answer.specs.declared.answer.Delivery.TheVariants as deliveries
 use Rattle.slice_answer.specs.declared.answer.Delivery.{Delivery}
-use Rattle.slice_core_plan.specs.Plan.{ack_move, fill_move, forwarded_move}
-use Rattle.slice_core_plan.specs.declared.transition.Transition.TheVariants as transitions
-use Rattle.slice_core_plan.specs.declared.transition.Transition.{Transition}
+use Rattle.slice_core_spec.specs.Plan.{ack_move, fill_move, forwarded_move}
+use Rattle.slice_core_spec.specs.declared.transition.Transition.TheVariants as transitions
+use Rattle.slice_core_spec.specs.declared.transition.Transition.{Transition}
 
 -- ---- a copy that goes on
 

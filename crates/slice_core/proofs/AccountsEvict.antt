@@ -7,9 +7,9 @@ use Rattle.address_map.specs.declared.address.Local.{Local}
 use Rattle.slice_answer.specs.Stats.{after_eviction}
 use Rattle.slice_answer.specs.declared.answer.Evicted.{Evicted}
 use Rattle.slice_answer.specs.declared.answer.Evicted.TheVariants as evictions
-use Rattle.slice_core_plan.specs.Calls.{PartsView, AfterEvict}
-use Rattle.slice_core_plan.specs.Steps.{after_evict}
-use Rattle.slice_core_plan.specs.View.{cache_at}
+use Rattle.slice_core_spec.specs.Calls.{PartsView, AfterEvict}
+use Rattle.slice_core_spec.specs.Steps.{after_evict}
+use Rattle.slice_core_spec.specs.View.{cache_at}
 use Rattle.slice_core_cache.specs.Access.{evicted_of}
 use Rattle.slice_core_cache.specs.CoreCache.{array_copy}
 use Rattle.slice_core_cache.specs.Steps as caches

@@ -6,8 +6,8 @@ use Rattle.std.proofs.lemmas.List.{get_or_past}
 use Rattle.std.proofs.lemmas.Option.{get_or_from_slice_get}
 use Rattle.address_map.specs.declared.address.CoreId.{CoreId}
 use Rattle.slice_core_cache.specs.CoreCache.{CoreCacheView}
-use Rattle.slice_core_plan.specs.Calls.{PartsView, AfterHand}
-use Rattle.slice_core_plan.specs.View.{View, no_cache, cache_at}
+use Rattle.slice_core_spec.specs.Calls.{PartsView, AfterHand}
+use Rattle.slice_core_spec.specs.View.{View, no_cache, cache_at}
 use Rattle.slice_core_theory.proofs.Grown.{no_entry-standings}
 use Rattle.slice_core_theory.specs.Standing.{standings}
 use Rattle.slice_log.specs.Log.{IsOrdered}

@@ -2,8 +2,8 @@
 use Rattle.std.proofs.Common.{◌<◌, length, Option, Some, None, refl, sym, subst}
 use Rattle.address_map.specs.declared.address.CoreId.{CoreId}
 use Rattle.slice_core_cache.specs.Steps as caches
-use Rattle.slice_core_plan.specs.Calls.{PartsView, AfterHand}
-use Rattle.slice_core_plan.specs.View.{cache_at}
+use Rattle.slice_core_spec.specs.Calls.{PartsView, AfterHand}
+use Rattle.slice_core_spec.specs.View.{cache_at}
 use Rattle.slice_log.specs.declared.entry.Numbered.{Numbered}
 use Rattle.slice_core.proofs.AccountsKept.{Keeps, keeps-handed}
 

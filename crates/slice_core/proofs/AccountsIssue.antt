@@ -12,14 +12,14 @@ use Rattle.mshr_file.specs.declared.registers.Register.{Register}
 use Rattle.slice_answer.specs.Stats.{after_eviction, after_hit as hit_counted, after_primary, after_secondary}
 use Rattle.slice_answer.specs.declared.answer.Issue.{Issue}
 use Rattle.slice_answer.specs.declared.answer.Refused.{Refused}
-use Rattle.slice_core_plan.specs.Decision.{decision_of}
-use Rattle.slice_core_plan.specs.Calls.{PartsView, opened_stats, target_for, AfterAccepting, AfterAccess, AfterIssue}
-use Rattle.slice_core_plan.specs.Calls.{IsAccepted, LacksMemory}
-use Rattle.slice_core_plan.specs.Steps.{after_hit, after_join, after_open, after_opening, after_request, is_held}
-use Rattle.slice_core_plan.specs.Steps.{request_of, with_way}
-use Rattle.slice_core_plan.specs.View.{channels_at, cache_at, with_cache}
-use Rattle.slice_core_plan.specs.declared.decision.Decision.{Decision}
-use Rattle.slice_core_plan.specs.declared.decision.Decision.TheVariants as decisions
+use Rattle.slice_core_spec.specs.Decision.{decision_of}
+use Rattle.slice_core_spec.specs.Calls.{PartsView, opened_stats, target_for, AfterAccepting, AfterAccess, AfterIssue}
+use Rattle.slice_core_spec.specs.Calls.{IsAccepted, LacksMemory}
+use Rattle.slice_core_spec.specs.Steps.{after_hit, after_join, after_open, after_opening, after_request, is_held}
+use Rattle.slice_core_spec.specs.Steps.{request_of, with_way}
+use Rattle.slice_core_spec.specs.View.{channels_at, cache_at, with_cache}
+use Rattle.slice_core_spec.specs.declared.decision.Decision.{Decision}
+use Rattle.slice_core_spec.specs.declared.decision.Decision.TheVariants as decisions
 use Rattle.slice_core_cache.specs.CoreCache.{CoreCacheView, array_copy, tag_at}
 use Rattle.slice_core_cache.specs.Steps as caches
 use Rattle.slice_core_cache.specs.declared.access.AccessKind.{AccessKind}
@@ -35,9 +35,9 @@ use Rattle.slice_core.proofs.CountedLines.{cores-sent}
 use Rattle.slice_core.proofs.CountedStats.{accepted-within, counts-eviction, counts-hit, counts-primary}
 use Rattle.slice_core.proofs.CountedStats.{counts-secondary, same-none, same-stall}
 use Rattle.slice_core.proofs.CountedSteps.{after_step, shaped-channels, cache-here}
-use Rattle.slice_queues_message.specs.declared.channel.Channel.TheVariants as channels
-use Rattle.slice_queues_message.specs.declared.message.Message.TheVariants as messages
-use Rattle.slice_queues_message.specs.declared.message.RequestMessage.{RequestMessage}
+use Rattle.slice_queues.specs.declared.channel.Channel.TheVariants as channels
+use Rattle.slice_queues.specs.declared.message.Message.TheVariants as messages
+use Rattle.slice_queues.specs.declared.message.RequestMessage.{RequestMessage}
 use Rattle.target_list.specs.declared.target.Target.{Target}
 
 -- A request that a core sends changes neither counts nor accounts.

@@ -11,8 +11,8 @@ use Rattle.address_map.specs.declared.block.Block.{Block}
 use Rattle.mshr_file.specs.Miss.{has_miss, AddsTarget, IsMissFile, TakesTargets}
 use Rattle.slice_answer.specs.Stats.{StatsView, accepted_of, counts_of}
 use Rattle.slice_log.specs.declared.entry.Entry.{Entry}
-use Rattle.slice_core_plan.specs.Calls.{PartsView}
-use Rattle.slice_core_plan.specs.View.{View, cache_at, with_cache, IsShaped}
+use Rattle.slice_core_spec.specs.Calls.{PartsView}
+use Rattle.slice_core_spec.specs.View.{View, cache_at, with_cache, IsShaped}
 use Rattle.slice_core_cache.specs.Copy.{performed_on}
 use Rattle.slice_core_cache.specs.Perform.{entries_of, tags_after}
 use Rattle.slice_core_cache.specs.CoreCache.{CoreCacheView, tag_at}

@@ -7,7 +7,7 @@ use Rattle.std.proofs.lemmas.List.Elements.{All-weaker}
 use Rattle.address_map.specs.Locator.{Lines}
 use Rattle.address_map.specs.declared.address.CoreId.{CoreId}
 use Rattle.slice_core_cache.specs.CoreCache.{CoreCacheView}
-use Rattle.slice_core_plan.specs.View.{View, cache_at, with_cache}
+use Rattle.slice_core_spec.specs.View.{View, cache_at, with_cache}
 use Rattle.slice_core_theory.proofs.Grown.{account-others, no_entry-others}
 use Rattle.slice_core_theory.specs.Standing.{HasNoEntry, IsAccount}
 use Rattle.slice_log.specs.Log.{IsOrdered}

@@ -12,9 +12,9 @@ use Rattle.slice_core_theory.proofs.Bounded as bounds
 use Rattle.slice_core_theory.proofs.Consequences.{one_writer}
 use Rattle.slice_core_theory.proofs.Unbroken.{whole_is_unbroken}
 use Rattle.slice_core_theory.specs.Coherent.{HasBoundedChannels, HasOneWriter, NothingIsBroken}
-use Rattle.slice_core_plan.specs.Calls.{PartsView, AfterDeliverNext, AfterDelivery, AfterPlan, local_in}
-use Rattle.slice_core_plan.specs.Plan.{plan_of, planned_in}
-use Rattle.slice_core_plan.specs.View.{IsQuiet, first_word}
+use Rattle.slice_core_spec.specs.Calls.{PartsView, AfterDeliverNext, AfterDelivery, AfterPlan, local_in}
+use Rattle.slice_core_spec.specs.Plan.{plan_of, planned_in}
+use Rattle.slice_core_spec.specs.View.{IsQuiet, first_word}
 use Rattle.slice_core.proofs.AccountsCan.{can-deliver}
 use Rattle.slice_core.proofs.AccountsFacts as facts
 use Rattle.slice_core.specs.Facts.{Holds, IsReached, IsNotBroken, IsNotBrokenNext, ShowsLast, ShowsWord}
@@ -24,13 +24,13 @@ use Rattle.slice_core_theory.proofs.Current.{newest, reached_without}
 use Rattle.slice_core_theory.proofs.QuietNewest.{quiet_newest}
 use Rattle.slice_log.specs.Log.{initially, value}
 use Rattle.slice_core.specs.Sound.{IsSound}
-use Rattle.slice_queues_message.specs.Pick.{channel_of, line_of}
-use Rattle.slice_queues_message.specs.declared.channel.Channel.{Channel}
-use Rattle.slice_queues_message.specs.declared.channel.Class.{Class}
-use Rattle.slice_queues_message.specs.declared.channel.Pick.{Pick}
+use Rattle.slice_queues.specs.Pick.{channel_of, line_of}
+use Rattle.slice_queues.specs.declared.channel.Channel.{Channel}
+use Rattle.slice_queues.specs.declared.channel.Class.{Class}
+use Rattle.slice_queues.specs.declared.channel.Pick.{Pick}
 use Rattle.slice_answer.specs.declared.answer.Delivery.TheVariants as deliveries
 use Rattle.slice_answer.specs.declared.answer.Delivery.{Delivery}
-use Rattle.slice_core_plan.specs.declared.transition.Transition.{Transition}
+use Rattle.slice_core_spec.specs.declared.transition.Transition.{Transition}
 
 -- What a sound slice is at its outside.
 pub whole : (p : PartsView) → IsSound p → IsWhole p.view

@@ -8,13 +8,13 @@ use Rattle.slice_answer.specs.Stats.{accepted_of, after_eviction, after_hit, aft
 use Rattle.slice_answer.specs.Stats.{after_secondary, after_stall, next_count, counts_of, no_counts, with_counts}
 use Rattle.slice_answer.specs.declared.answer.Stall.{Stall}
 use Rattle.slice_answer.specs.declared.stats.CoreStats.{CoreStats}
-use Rattle.slice_core_plan.specs.Calls.{PartsView}
-use Rattle.slice_core_plan.specs.View.{no_cache, cache_at}
+use Rattle.slice_core_spec.specs.Calls.{PartsView}
+use Rattle.slice_core_spec.specs.View.{no_cache, cache_at}
 use Rattle.slice_core_cache.specs.CoreCache.{CoreCacheView}
 use Rattle.slice_core_theory.specs.Standing.{is_of, target_count}
 use Rattle.slice_core.proofs.CountedSteps.{Counts, CountsSame}
 use Rattle.slice_core.specs.Sound.{HasAccounts, HasFittingCounts}
-use Rattle.slice_queues_message.specs.declared.channel.Channel.{Channel}
+use Rattle.slice_queues.specs.declared.channel.Channel.{Channel}
 
 -- No more targets wait for a core than wait in all.
 pub waiting-within : (p : PartsView) (core : CoreId) → HasFittingCounts p → core.0 < length p.view.caches

@@ -9,9 +9,9 @@ use Rattle.address_map.specs.declared.address.Local.{Local}
 use Rattle.directory_table.specs.declared.state.DirEntry.{DirEntry}
 use Rattle.slice_answer.specs.Stats.{StatsView, accepted_of, counts_of}
 use Rattle.slice_log.specs.declared.entry.Entry.{Entry}
-use Rattle.slice_core_plan.specs.Calls.{PartsView}
-use Rattle.slice_core_plan.specs.View.{View, channels_at, no_cache, cache_at, with_channels, with_entry, with_cache}
-use Rattle.slice_core_plan.specs.View.{IsShaped}
+use Rattle.slice_core_spec.specs.Calls.{PartsView}
+use Rattle.slice_core_spec.specs.View.{View, channels_at, no_cache, cache_at, with_channels, with_entry, with_cache}
+use Rattle.slice_core_spec.specs.View.{IsShaped}
 use Rattle.slice_core_cache.specs.CoreCache.{CoreCacheView}
 use Rattle.slice_core_theory.specs.Standing.{target_count}
 use Rattle.slice_core.specs.Sound.{HasFittingCounts}

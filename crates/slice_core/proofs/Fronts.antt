@@ -6,14 +6,14 @@ use Rattle.std.proofs.lemmas.Bool.{ltb-false}
 use Rattle.std.proofs.lemmas.List.{get_or_past}
 use Rattle.address_map.specs.Locator.{local_at}
 use Rattle.slice_core.specs.Facts.{HasEachFrontOnce, front_at}
-use Rattle.slice_core_plan.specs.View.{View}
+use Rattle.slice_core_spec.specs.View.{View}
 use Rattle.slice_queues.proofs.SliceLaws.{IsEmptyLine-empty_line}
 use Rattle.slice_queues.specs.Line.{LineChannels, empty_line, messages_at}
 use Rattle.slice_queues.specs.Waiting.{HasEachPickOnce, is_from_core, is_waiting_in, placed_by}
-use Rattle.slice_queues_message.specs.Pick.{channel_of, line_of}
-use Rattle.slice_queues_message.specs.declared.channel.Channel.{Channel}
-use Rattle.slice_queues_message.specs.declared.channel.Pick.{Pick}
-use Rattle.slice_queues_message.specs.declared.message.Message.{Message}
+use Rattle.slice_queues.specs.Pick.{channel_of, line_of}
+use Rattle.slice_queues.specs.declared.channel.Channel.{Channel}
+use Rattle.slice_queues.specs.declared.channel.Pick.{Pick}
+use Rattle.slice_queues.specs.declared.message.Message.{Message}
 
 -- a list has a first item exactly where it has some
 has-first : (xs : List Message) → nat_lt 0 (length xs) ≡ is_some (slice_get xs 0)

@@ -17,9 +17,9 @@ use Rattle.mshr_file.specs.Miss.{AddsTarget, has_miss, targets_of}
 use Rattle.mshr_file.specs.declared.registers.Register.{Register}
 use Rattle.slice_core_theory.proofs.Accesses.{can_leave, has_way, sends_for, cache_replaced, HasPlace, HasPlaceFor}
 use Rattle.slice_core_theory.proofs.Accesses.{HasVictim, HasVictimFor}
-use Rattle.slice_core_plan.specs.Steps.{after_evict, after_hand, after_hit, after_join, after_open, after_opening}
-use Rattle.slice_core_plan.specs.Steps.{after_request, request_of, with_way}
-use Rattle.slice_core_plan.specs.View.{View, channels_at, entry_at, no_cache, cache_at, with_cache, IsShaped}
+use Rattle.slice_core_spec.specs.Steps.{after_evict, after_hand, after_hit, after_join, after_open, after_opening}
+use Rattle.slice_core_spec.specs.Steps.{after_request, request_of, with_way}
+use Rattle.slice_core_spec.specs.View.{View, channels_at, entry_at, no_cache, cache_at, with_cache, IsShaped}
 use Rattle.slice_core_cache.proofs.Found.{changes-evict, changes-hit, changes-open_free, changes-open_held}
 use Rattle.slice_core_cache.proofs.Found.{kept-after_draw, kept-after_hand}
 use Rattle.slice_core_cache.proofs.Lines.{ChangesLine, FitsIn}
@@ -38,9 +38,9 @@ use Rattle.slice_core.proofs.LinksRequests.{asked, asked-sent, asked-sent_other}
 use Rattle.slice_core.proofs.LinksAsking.{hits_on, leaves_by, opens_to, OpensTo}
 use Rattle.slice_core.specs.Sound.{HasLinks, has_sent}
 use Rattle.slice_queues.specs.Line.{LineChannels, after_send, empty_line}
-use Rattle.slice_queues_message.specs.declared.channel.Channel.TheVariants as channels
-use Rattle.slice_queues_message.specs.declared.message.Message.TheVariants as messages
-use Rattle.slice_queues_message.specs.declared.message.RequestMessage.{RequestMessage}
+use Rattle.slice_queues.specs.declared.channel.Channel.TheVariants as channels
+use Rattle.slice_queues.specs.declared.message.Message.TheVariants as messages
+use Rattle.slice_queues.specs.declared.message.RequestMessage.{RequestMessage}
 use Rattle.target_list.specs.declared.target.Target.{Target}
 use Rattle.writeback_buffer.specs.Buffer.{held_at as buffer_at}
 use Rattle.writeback_buffer.specs.declared.pending.Leaving.{Leaving}

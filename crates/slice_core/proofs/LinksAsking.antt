@@ -16,7 +16,7 @@ use Rattle.cache_table.specs.declared.row.Row.TheVariants as rows
 use Rattle.cache_table.specs.declared.state.CopyState.{CopyState}
 use Rattle.cache_table.specs.declared.state.CopyState.TheVariants as copy_states
 use Rattle.slice_core_theory.proofs.Accesses.{sends_for}
-use Rattle.slice_core_plan.specs.Steps.{request_of}
+use Rattle.slice_core_spec.specs.Steps.{request_of}
 use Rattle.slice_core_cache.specs.Access.{event_of}
 use Rattle.slice_core_cache.specs.Copy.{may_leave}
 use Rattle.slice_core_cache.specs.Kept.{stands_in_array}
@@ -24,8 +24,8 @@ use Rattle.slice_core_cache.specs.Steps.{next_by, put_by}
 use Rattle.slice_core_cache.specs.declared.access.Ask.{Ask}
 use Rattle.slice_core_cache.specs.declared.access.Ask.TheVariants as asks
 use Rattle.slice_core.specs.Sound.{has_sent}
-use Rattle.slice_queues_message.specs.declared.message.RequestMessage.{RequestMessage}
-use Rattle.slice_queues_message.specs.declared.message.RequestMessage.TheVariants as request_messages
+use Rattle.slice_queues.specs.declared.message.RequestMessage.{RequestMessage}
+use Rattle.slice_queues.specs.declared.message.RequestMessage.TheVariants as request_messages
 
 -- ---- tests over all states
 

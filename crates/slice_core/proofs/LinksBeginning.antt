@@ -15,9 +15,9 @@ use Rattle.cache_table.specs.CopyState.{is_waiting}
 use Rattle.cache_table.specs.declared.state.CopyState.TheVariants as copy_states
 use Rattle.directory_table.specs.declared.state.DirEntry.{DirEntry}
 use Rattle.mshr_file.specs.Miss.{has_miss, Bound}
-use Rattle.slice_core_plan.specs.Initial.{AreInitialEntries, AreNewCaches}
-use Rattle.slice_core_plan.specs.Calls.{IsNew, PartsView}
-use Rattle.slice_core_plan.specs.View.{View, channels_at, cache_at}
+use Rattle.slice_core_spec.specs.Initial.{AreInitialEntries, AreNewCaches}
+use Rattle.slice_core_spec.specs.Calls.{IsNew, PartsView}
+use Rattle.slice_core_spec.specs.View.{View, channels_at, cache_at}
 use Rattle.slice_core_cache.proofs.Found.{copy_of-new, kept-new}
 use Rattle.slice_core_cache.specs.Copy.{found_in}
 use Rattle.slice_core_cache.specs.Kept.{IsKept, stands_in_array}

@@ -14,25 +14,25 @@ use Rattle.directory_table.specs.declared.row.DirStep.{DirStep}
 use Rattle.directory_table.specs.declared.state.DirEntry.{DirEntry}
 use Rattle.directory_table.specs.declared.state.DirState.{DirState}
 use Rattle.directory_table.specs.declared.state.DirState.TheVariants as dir_states
-use Rattle.slice_core_plan.specs.Plan.{by_home_row, event_of_request, home_plan, plan_of}
-use Rattle.slice_core_plan.specs.Sends.{directory_room, directory_sent}
-use Rattle.slice_core_plan.specs.Steps.{after_directory, after_home, block_in}
-use Rattle.slice_core_plan.specs.View.{View, channels_at, entry_at, no_entry, cache_at, with_channels, with_entry}
-use Rattle.slice_core_plan.specs.View.{IsShaped}
+use Rattle.slice_core_spec.specs.Plan.{by_home_row, event_of_request, home_plan, plan_of}
+use Rattle.slice_core_spec.specs.Sends.{directory_room, directory_sent}
+use Rattle.slice_core_spec.specs.Steps.{after_directory, after_home, block_in}
+use Rattle.slice_core_spec.specs.View.{View, channels_at, entry_at, no_entry, cache_at, with_channels, with_entry}
+use Rattle.slice_core_spec.specs.View.{IsShaped}
 use Rattle.slice_core_cache.specs.CoreCache.{state_of}
 use Rattle.slice_core.proofs.LinksFrame.{placed, same_local}
 use Rattle.slice_core.proofs.LinksRequests.{asked, asked-directory_sent, asked-taken, asked-taken_other}
 use Rattle.slice_core.proofs.LinksAsking.{sent-none}
 use Rattle.slice_core.specs.Sound.{HasLinks, has_sent}
 use Rattle.slice_queues.specs.Line.{LineChannels, after_take, core_at, empty_line}
-use Rattle.slice_queues_message.specs.declared.channel.Channel.TheVariants as channels
-use Rattle.slice_queues_message.specs.declared.message.RequestMessage.{RequestMessage}
-use Rattle.slice_queues_message.specs.declared.message.RequestMessage.TheVariants as request_messages
+use Rattle.slice_queues.specs.declared.channel.Channel.TheVariants as channels
+use Rattle.slice_queues.specs.declared.message.RequestMessage.{RequestMessage}
+use Rattle.slice_queues.specs.declared.message.RequestMessage.TheVariants as request_messages
 use Rattle.slice_answer.specs.declared.answer.Delivery.TheVariants as deliveries
 use Rattle.slice_answer.specs.declared.answer.Delivery.{Delivery}
-use Rattle.slice_core_plan.specs.Plan.{directory_move, home_move}
-use Rattle.slice_core_plan.specs.declared.transition.Transition.TheVariants as transitions
-use Rattle.slice_core_plan.specs.declared.transition.Transition.{Transition}
+use Rattle.slice_core_spec.specs.Plan.{directory_move, home_move}
+use Rattle.slice_core_spec.specs.declared.transition.Transition.TheVariants as transitions
+use Rattle.slice_core_spec.specs.declared.transition.Transition.{Transition}
 
 -- ---- owners
 

@@ -4,7 +4,7 @@ use Rattle.std.proofs.lemmas.Bool.{cases_lt}
 use Rattle.std.proofs.lemmas.List.{get_or_past}
 use Rattle.address_map.specs.declared.address.CoreId.{CoreId}
 use Rattle.address_map.specs.declared.address.Local.{Local}
-use Rattle.slice_core_plan.specs.View.{View, channels_at, cache_at, IsShaped}
+use Rattle.slice_core_spec.specs.View.{View, channels_at, cache_at, IsShaped}
 use Rattle.slice_core_cache.specs.Access.{is_idle}
 use Rattle.slice_core_cache.specs.CoreCache.{state_of}
 use Rattle.slice_core.proofs.LinksRequests.{asked}

@@ -12,11 +12,11 @@ use Rattle.cache_table.specs.declared.row.Row.TheVariants as rows
 use Rattle.cache_table.specs.declared.state.CopyState.{CopyState}
 use Rattle.cache_table.specs.declared.state.CopyState.TheVariants as copy_states
 use Rattle.mshr_file.specs.Miss.{has_miss, targets_of}
-use Rattle.slice_core_plan.specs.Plan.{event_of_forwarded, is_put_ack, plan_of, requester_of}
-use Rattle.slice_core_plan.specs.Sends.{cache_room, cache_sent}
-use Rattle.slice_core_plan.specs.Steps.{after_forwarded}
-use Rattle.slice_core_plan.specs.View.{View, channels_at, cache_at, IsShaped}
-use Rattle.slice_core_plan.specs.Within.{HasCopy}
+use Rattle.slice_core_spec.specs.Plan.{event_of_forwarded, is_put_ack, plan_of, requester_of}
+use Rattle.slice_core_spec.specs.Sends.{cache_room, cache_sent}
+use Rattle.slice_core_spec.specs.Steps.{after_forwarded}
+use Rattle.slice_core_spec.specs.View.{View, channels_at, cache_at, IsShaped}
+use Rattle.slice_core_spec.specs.Within.{HasCopy}
 use Rattle.slice_core_cache.proofs.Found.{advanced_copy, advanced_leaving, changes-advance, moved_to}
 use Rattle.slice_core_cache.proofs.Lines.{FitsIn}
 use Rattle.slice_core_cache.specs.Copy.{found_in, is_gone}
@@ -30,15 +30,15 @@ use Rattle.slice_core.proofs.LinksRequests.{asked, asked-cache_sent, asked-forwa
 use Rattle.slice_core.proofs.LinksStates.{gone-is, goes_on_by, GoesOn}
 use Rattle.slice_core.specs.Sound.{HasLinks, has_sent}
 use Rattle.slice_queues.specs.Line.{after_take, core_at}
-use Rattle.slice_queues_message.specs.declared.channel.Channel.TheVariants as channels
-use Rattle.slice_queues_message.specs.declared.message.ForwardedMessage.{ForwardedMessage}
+use Rattle.slice_queues.specs.declared.channel.Channel.TheVariants as channels
+use Rattle.slice_queues.specs.declared.message.ForwardedMessage.{ForwardedMessage}
 use Rattle.writeback_buffer.specs.Buffer.{held_at as buffer_at, in_state, with_state, without_line}
 use Rattle.writeback_buffer.specs.declared.pending.Leaving.{Leaving}
 use Rattle.slice_answer.specs.declared.answer.Delivery.TheVariants as deliveries
 use Rattle.slice_answer.specs.declared.answer.Delivery.{Delivery}
-use Rattle.slice_core_plan.specs.Plan.{forwarded_move}
-use Rattle.slice_core_plan.specs.declared.transition.Transition.TheVariants as transitions
-use Rattle.slice_core_plan.specs.declared.transition.Transition.{Transition}
+use Rattle.slice_core_spec.specs.Plan.{forwarded_move}
+use Rattle.slice_core_spec.specs.declared.transition.Transition.TheVariants as transitions
+use Rattle.slice_core_spec.specs.declared.transition.Transition.{Transition}
 
 -- ---- the row
 

@@ -16,8 +16,8 @@ use Rattle.slice_core_cache.specs.Copy.{found_in}
 use Rattle.slice_core_cache.specs.Kept.{IsKept}
 use Rattle.slice_core_cache.specs.CoreCache.{CoreCacheView, copy_of, state_of}
 use Rattle.slice_core_cache.specs.declared.copy.CacheCopy.{CacheCopy}
-use Rattle.slice_core_plan.specs.View.{View, channels_at, entry_at, cache_at, with_channels, with_cache, no_cache}
-use Rattle.slice_core_plan.specs.View.{IsShaped}
+use Rattle.slice_core_spec.specs.View.{View, channels_at, entry_at, cache_at, with_channels, with_cache, no_cache}
+use Rattle.slice_core_spec.specs.View.{IsShaped}
 use Rattle.slice_core.specs.Sound.{HasLinks, has_sent}
 use Rattle.slice_queues.specs.Line.{LineChannels, core_at, empty_line}
 use Rattle.writeback_buffer.specs.Buffer.{held_at as buffer_at}

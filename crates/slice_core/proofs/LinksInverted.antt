@@ -22,11 +22,11 @@ use Rattle.slice_answer.specs.declared.answer.Issue.TheVariants as issues
 use Rattle.slice_answer.specs.declared.answer.Refused.{Refused}
 use Rattle.slice_answer.specs.declared.answer.Stall.{Stall}
 use Rattle.slice_answer.specs.declared.answer.Stall.TheVariants as stalls
-use Rattle.slice_core_plan.specs.Decision.{decision_of}
-use Rattle.slice_core_plan.specs.Calls.{PartsView, AfterAccepting, AfterAccess, AfterIssue, IsAccepted, LacksMemory}
-use Rattle.slice_core_plan.specs.View.{cache_at}
-use Rattle.slice_core_plan.specs.declared.decision.Decision.{Decision}
-use Rattle.slice_core_plan.specs.declared.decision.Decision.TheVariants as decisions
+use Rattle.slice_core_spec.specs.Decision.{decision_of}
+use Rattle.slice_core_spec.specs.Calls.{PartsView, AfterAccepting, AfterAccess, AfterIssue, IsAccepted, LacksMemory}
+use Rattle.slice_core_spec.specs.View.{cache_at}
+use Rattle.slice_core_spec.specs.declared.decision.Decision.{Decision}
+use Rattle.slice_core_spec.specs.declared.decision.Decision.TheVariants as decisions
 use Rattle.slice_core_cache.specs.Access.{absent_by, access_of, alone_of, by_admission, event_of, has_buffer_room}
 use Rattle.slice_core_cache.specs.Access.{has_victim}
 use Rattle.slice_core_cache.specs.Access.{has_way, held_by, in_way}

@@ -11,20 +11,20 @@ use Rattle.cache_table.specs.declared.row.CacheSends.{CacheSends}
 use Rattle.cache_table.specs.declared.row.CacheSends.TheVariants as cache_sends
 use Rattle.directory_table.specs.declared.row.DirSends.{DirSends}
 use Rattle.directory_table.specs.declared.row.DirSends.TheVariants as dir_sends
-use Rattle.slice_core_plan.specs.Sends.{cache_sent, directory_sent}
-use Rattle.slice_core_plan.specs.Steps.{asked_by}
+use Rattle.slice_core_spec.specs.Sends.{cache_sent, directory_sent}
+use Rattle.slice_core_spec.specs.Steps.{asked_by}
 use Rattle.slice_core.proofs.LinksStates.{asked_then}
 use Rattle.slice_queues.proofs.InvalidateLaws.{core_at-after_invalidating, core_at-not_invalidated}
 use Rattle.slice_queues.proofs.LineLaws.{read-set_unchanged}
 use Rattle.slice_queues.specs.Line.{CoreChannels, LineChannels, no_messages, core_at, with_core, after_send, after_take}
 use Rattle.slice_queues.specs.Line.{after_invalidating, with_invalidation}
-use Rattle.slice_queues_message.specs.declared.channel.Channel.TheVariants as channels
-use Rattle.slice_queues_message.specs.declared.message.DataMessage.{DataMessage}
-use Rattle.slice_queues_message.specs.declared.message.DataMessage.TheVariants as data_messages
-use Rattle.slice_queues_message.specs.declared.message.ForwardedMessage.{ForwardedMessage}
-use Rattle.slice_queues_message.specs.declared.message.Message.TheVariants as messages
-use Rattle.slice_queues_message.specs.declared.message.RequestMessage.{RequestMessage}
-use Rattle.slice_queues_message.specs.declared.message.RequestMessage.TheVariants as request_messages
+use Rattle.slice_queues.specs.declared.channel.Channel.TheVariants as channels
+use Rattle.slice_queues.specs.declared.message.DataMessage.{DataMessage}
+use Rattle.slice_queues.specs.declared.message.DataMessage.TheVariants as data_messages
+use Rattle.slice_queues.specs.declared.message.ForwardedMessage.{ForwardedMessage}
+use Rattle.slice_queues.specs.declared.message.Message.TheVariants as messages
+use Rattle.slice_queues.specs.declared.message.RequestMessage.{RequestMessage}
+use Rattle.slice_queues.specs.declared.message.RequestMessage.TheVariants as request_messages
 
 -- what the core with this number asks of the directory
 abbrev pub asked : LineChannels → ℕ → Option RequestMessage

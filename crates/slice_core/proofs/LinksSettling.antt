@@ -20,10 +20,10 @@ use Rattle.cache_table.specs.declared.state.CopyState.{CopyState}
 use Rattle.cache_table.specs.declared.state.CopyState.TheVariants as copy_states
 use Rattle.mshr_file.specs.Miss.{is_waited, targets_of, TakesTargets}
 use Rattle.mshr_file.specs.declared.registers.Register.{Register}
-use Rattle.slice_core_plan.specs.Calls.{filled_by}
-use Rattle.slice_core_plan.specs.Plan.{event_of_data, plan_of, stands_at}
-use Rattle.slice_core_plan.specs.Steps.{after_settling, asked_by}
-use Rattle.slice_core_plan.specs.View.{View, channels_at, cache_at, IsShaped}
+use Rattle.slice_core_spec.specs.Calls.{filled_by}
+use Rattle.slice_core_spec.specs.Plan.{event_of_data, plan_of, stands_at}
+use Rattle.slice_core_spec.specs.Steps.{after_settling, asked_by}
+use Rattle.slice_core_spec.specs.View.{View, channels_at, cache_at, IsShaped}
 use Rattle.slice_core_cache.proofs.Found.{changes-change, changes-settle, kept-after_change}
 use Rattle.slice_core_cache.proofs.Lines.{ChangesLine}
 use Rattle.slice_core_cache.specs.Copy.{found_in, no_copy}
@@ -40,20 +40,20 @@ use Rattle.slice_core.proofs.LinksStates.{asked_then, comes_by_ack, comes_by_dat
 use Rattle.slice_core.proofs.LinksStates.{settled-sent, settled-stands, settled-waits, waits-or_leaves}
 use Rattle.slice_core.specs.Sound.{HasLinks, has_sent}
 use Rattle.slice_queues.specs.Line.{after_take, core_at}
-use Rattle.slice_queues_message.specs.declared.channel.Channel.{Channel}
-use Rattle.slice_queues_message.specs.declared.channel.Channel.TheVariants as channels
-use Rattle.slice_queues_message.specs.declared.message.DataMessage.{DataMessage}
-use Rattle.slice_queues_message.specs.declared.message.DataMessage.TheVariants as data_messages
-use Rattle.slice_queues_message.specs.declared.message.RequestMessage.{RequestMessage}
+use Rattle.slice_queues.specs.declared.channel.Channel.{Channel}
+use Rattle.slice_queues.specs.declared.channel.Channel.TheVariants as channels
+use Rattle.slice_queues.specs.declared.message.DataMessage.{DataMessage}
+use Rattle.slice_queues.specs.declared.message.DataMessage.TheVariants as data_messages
+use Rattle.slice_queues.specs.declared.message.RequestMessage.{RequestMessage}
 use Rattle.target_list.specs.Target.{is_load}
 use Rattle.target_list.specs.declared.target.Target.{Target}
 use Rattle.writeback_buffer.specs.Buffer.{held_at as buffer_at}
 use Rattle.writeback_buffer.specs.declared.pending.Leaving.{Leaving}
 use Rattle.slice_answer.specs.declared.answer.Delivery.TheVariants as deliveries
 use Rattle.slice_answer.specs.declared.answer.Delivery.{Delivery}
-use Rattle.slice_core_plan.specs.Plan.{ack_move, fill_move}
-use Rattle.slice_core_plan.specs.declared.transition.Transition.TheVariants as transitions
-use Rattle.slice_core_plan.specs.declared.transition.Transition.{Transition}
+use Rattle.slice_core_spec.specs.Plan.{ack_move, fill_move}
+use Rattle.slice_core_spec.specs.declared.transition.Transition.TheVariants as transitions
+use Rattle.slice_core_spec.specs.declared.transition.Transition.{Transition}
 
 -- ---- the copy
 

@@ -21,11 +21,11 @@ use Rattle.slice_core_cache.specs.Access.{is_idle}
 use Rattle.slice_core_cache.specs.Copy.{is_gone}
 use Rattle.slice_core_cache.specs.Kept.{stands_in_array}
 use Rattle.slice_core_cache.specs.Perform.{asks_to_write, left_in, settled_state}
-use Rattle.slice_core_plan.specs.Plan.{event_of_forwarded, is_put_ack}
-use Rattle.slice_queues_message.specs.declared.message.ForwardedMessage.TheVariants as forwarded_messages
-use Rattle.slice_queues_message.specs.declared.message.ForwardedMessage.{ForwardedMessage}
-use Rattle.slice_queues_message.specs.declared.message.RequestMessage.TheVariants as request_messages
-use Rattle.slice_queues_message.specs.declared.message.RequestMessage.{RequestMessage}
+use Rattle.slice_core_spec.specs.Plan.{event_of_forwarded, is_put_ack}
+use Rattle.slice_queues.specs.declared.message.ForwardedMessage.TheVariants as forwarded_messages
+use Rattle.slice_queues.specs.declared.message.ForwardedMessage.{ForwardedMessage}
+use Rattle.slice_queues.specs.declared.message.RequestMessage.TheVariants as request_messages
+use Rattle.slice_queues.specs.declared.message.RequestMessage.{RequestMessage}
 use Rattle.target_list.specs.Target.{behind_loads}
 use Rattle.target_list.specs.declared.target.Target.{Target}
 

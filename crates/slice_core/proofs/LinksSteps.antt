@@ -2,8 +2,8 @@
 use Rattle.std.proofs.Common.{refl}
 use Rattle.slice_core_theory.proofs.Steps.{KeepsAccesses, KeepsMessages}
 use Rattle.slice_core_theory.specs.Whole.{IsWhole}
-use Rattle.slice_core_plan.specs.Calls.{filled_by}
-use Rattle.slice_core_plan.specs.View.{channels_at, cache_at}
+use Rattle.slice_core_spec.specs.Calls.{filled_by}
+use Rattle.slice_core_spec.specs.View.{channels_at, cache_at}
 use Rattle.slice_core_cache.specs.CoreCache.{array_copy}
 use Rattle.slice_core_cache.specs.Steps.{copy_after_ack}
 use Rattle.slice_core.proofs.LinksAccesses.{links_evict, links_hand, links_hit, links_join, links_open}

@@ -14,9 +14,9 @@ use Rattle.slice_core_theory.proofs.Delivered.{deliver_next_performs, delivery_p
 use Rattle.slice_core_theory.proofs.MachineHanded.{hand_leads}
 use Rattle.slice_core_theory.proofs.Issued.{issue_leads}
 use Rattle.slice_core_theory.specs.Shows.{IsAccounted, Leads, Performs, hand_steps, issue_steps, next_of}
-use Rattle.slice_core_plan.specs.Calls.{AfterDeliverNext, AfterDelivery, AfterHand, AfterIssue, PartsView}
-use Rattle.slice_queues_message.specs.declared.channel.Class.{Class}
-use Rattle.slice_queues_message.specs.declared.channel.Pick.{Pick}
+use Rattle.slice_core_spec.specs.Calls.{AfterDeliverNext, AfterDelivery, AfterHand, AfterIssue, PartsView}
+use Rattle.slice_queues.specs.declared.channel.Class.{Class}
+use Rattle.slice_queues.specs.declared.channel.Pick.{Pick}
 use Rattle.slice_answer.specs.declared.answer.Delivery.{Delivery}
 
 -- A sound slice has each core's requests accounted for.

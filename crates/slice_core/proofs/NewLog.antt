@@ -23,10 +23,10 @@ use Rattle.slice_core_cache.specs.Tags.{IsLeastReply}
 use Rattle.slice_core_cache.specs.declared.copy.CacheCopy.{CacheCopy}
 use Rattle.slice_core_cache.specs.declared.tags.TagState.{TagState}
 use Rattle.slice_core_cache.specs.declared.tags.TagState.TheVariants as tag_states
-use Rattle.slice_core_plan.specs.Calls.{PartsView}
-use Rattle.slice_core_plan.specs.View.{View, IsQuiet, IsShaped, cache_at, channels_at, entry_at, first_word}
-use Rattle.slice_core_plan.specs.View.{no_cache}
-use Rattle.slice_core_steps.specs.NewLog.{with_new_log, words_now}
+use Rattle.slice_core_spec.specs.Calls.{PartsView}
+use Rattle.slice_core_spec.specs.View.{View, IsQuiet, IsShaped, cache_at, channels_at, entry_at, first_word}
+use Rattle.slice_core_spec.specs.View.{no_cache}
+use Rattle.slice_core_exec.specs.NewLog.{with_new_log, words_now}
 use Rattle.slice_core_theory.proofs.BlocksFrame.{reached_as}
 use Rattle.slice_core_theory.proofs.Kept.{Free_apart}
 use Rattle.slice_core_theory.proofs.QuietNewest.{quiet_newest}

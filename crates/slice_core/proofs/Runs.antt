@@ -11,7 +11,7 @@ use Rattle.slice_core_theory.proofs.Kept.{leads-same, same-view}
 use Rattle.slice_core_theory.proofs.Runs.{leads-on}
 use Rattle.slice_core_theory.specs.SmallMachine.{Step}
 use Rattle.slice_core_theory.specs.Shows.{Leads}
-use Rattle.slice_core_plan.specs.Calls.{PartsView}
+use Rattle.slice_core_spec.specs.Calls.{PartsView}
 
 -- No call is an empty run, and one call with its steps is a run.
 pub no_run : (old : PartsView) → IsOneRun old [] [] old

@@ -32,25 +32,25 @@ use Rattle.slice_core_cache.specs.declared.access.Ask.{Ask}
 use Rattle.slice_core_cache.specs.declared.access.Placement.{Placement}
 use Rattle.slice_core_cache.specs.declared.access.Placement.TheVariants as placements
 use Rattle.slice_core_cache.specs.declared.copy.CacheCopy.{CacheCopy}
-use Rattle.slice_core_plan.specs.Decision.{decision_of}
-use Rattle.slice_core_plan.specs.Calls.{PartsView, AfterAccepting, AfterAccess, AfterDeliverNext, AfterDelivery}
-use Rattle.slice_core_plan.specs.Calls.{AfterEvict, AfterHand, AfterIssue, AfterPlan, IsAccepted, LacksMemory, Settles}
-use Rattle.slice_core_plan.specs.Calls.{core_of, opened_stats, local_in, IsDone}
-use Rattle.slice_core_plan.specs.Plan.{plan_of, planned_in}
-use Rattle.slice_core_plan.specs.Steps.{after_evict, after_open, is_held, with_way}
-use Rattle.slice_core_plan.specs.View.{cache_at, with_cache}
-use Rattle.slice_core_plan.specs.declared.decision.Decision.{Decision}
-use Rattle.slice_core_plan.specs.declared.decision.Decision.TheVariants as decisions
+use Rattle.slice_core_spec.specs.Decision.{decision_of}
+use Rattle.slice_core_spec.specs.Calls.{PartsView, AfterAccepting, AfterAccess, AfterDeliverNext, AfterDelivery}
+use Rattle.slice_core_spec.specs.Calls.{AfterEvict, AfterHand, AfterIssue, AfterPlan, IsAccepted, LacksMemory, Settles}
+use Rattle.slice_core_spec.specs.Calls.{core_of, opened_stats, local_in, IsDone}
+use Rattle.slice_core_spec.specs.Plan.{plan_of, planned_in}
+use Rattle.slice_core_spec.specs.Steps.{after_evict, after_open, is_held, with_way}
+use Rattle.slice_core_spec.specs.View.{cache_at, with_cache}
+use Rattle.slice_core_spec.specs.declared.decision.Decision.{Decision}
+use Rattle.slice_core_spec.specs.declared.decision.Decision.TheVariants as decisions
 use Rattle.slice_queues.specs.Line.{LineChannels}
 use Rattle.slice_queues.specs.Ring.{with_listed}
-use Rattle.slice_queues_message.specs.Pick.{channel_of, line_of}
-use Rattle.slice_queues_message.specs.declared.channel.Channel.{Channel}
-use Rattle.slice_queues_message.specs.declared.channel.Class.{Class}
-use Rattle.slice_queues_message.specs.declared.channel.Pick.{Pick}
+use Rattle.slice_queues.specs.Pick.{channel_of, line_of}
+use Rattle.slice_queues.specs.declared.channel.Channel.{Channel}
+use Rattle.slice_queues.specs.declared.channel.Class.{Class}
+use Rattle.slice_queues.specs.declared.channel.Pick.{Pick}
 use Rattle.slice_answer.specs.declared.answer.Delivery.TheVariants as deliveries
 use Rattle.slice_answer.specs.declared.answer.Delivery.{Delivery}
-use Rattle.slice_core_plan.specs.declared.transition.Transition.TheVariants as transitions
-use Rattle.slice_core_plan.specs.declared.transition.Transition.{Transition}
+use Rattle.slice_core_spec.specs.declared.transition.Transition.TheVariants as transitions
+use Rattle.slice_core_spec.specs.declared.transition.Transition.{Transition}
 
 -- What changes nothing leaves the slice that it was, and so do two changes one after the other that both leave it.
 pub same-is : (old new : PartsView) → new ≡ old → IsSameSlice old new

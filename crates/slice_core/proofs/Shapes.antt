@@ -21,7 +21,7 @@ use Rattle.slice_core_cache.specs.Steps.{after_evict, after_hit, after_open, aft
 use Rattle.slice_core_cache.specs.Steps.{copy_after_settle, array_after_use}
 use Rattle.slice_core_cache.specs.Steps.{used_by, victim_for, with_copy, without_line_in}
 use Rattle.slice_core_cache.specs.declared.copy.CacheCopy.{CacheCopy}
-use Rattle.slice_core_plan.specs.View.{View, no_cache, cache_at, with_cache}
+use Rattle.slice_core_spec.specs.View.{View, no_cache, cache_at, with_cache}
 use Rattle.target_list.specs.declared.target.Target.{Target}
 use Rattle.writeback_buffer.specs.Buffer.{with_state, without_line}
 

@@ -4,7 +4,7 @@ use Rattle.address_map.specs.declared.address.SliceId.{SliceId}
 use Rattle.address_map.specs.declared.config.Config.{Config}
 use Rattle.cache_array.proofs.Powers.{power_from_ones}
 use Rattle.mshr_file.specs.Miss.{Bound}
-use Rattle.slice_core_plan.specs.Calls.{PartsView, IsNew}
+use Rattle.slice_core_spec.specs.Calls.{PartsView, IsNew}
 use Rattle.slice_core.proofs.AccountsBegin.{keeps-begins}
 use Rattle.slice_core.proofs.AccountsKept.{sound-from_keeps}
 use Rattle.slice_core.proofs.LinksBeginning.{links_initial}

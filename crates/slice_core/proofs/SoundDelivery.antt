@@ -3,14 +3,14 @@ use Rattle.slice_answer.specs.declared.answer.Delivered.{Delivered}
 use Rattle.slice_core_theory.proofs.BlocksDeliveries.{faithful_deliver_next, faithful_delivery}
 use Rattle.slice_core_theory.proofs.KeptByDeliveries.{deliver_next_keeps, delivery_keeps}
 use Rattle.slice_core_theory.specs.Whole.{IsWhole}
-use Rattle.slice_core_plan.specs.Calls.{PartsView, AfterDeliverNext, AfterDelivery}
+use Rattle.slice_core_spec.specs.Calls.{PartsView, AfterDeliverNext, AfterDelivery}
 use Rattle.slice_core.proofs.AccountsDelivery.{keeps-deliver_next, keeps-delivery}
 use Rattle.slice_core.proofs.AccountsKept.{sound-from_keeps}
 use Rattle.slice_core.proofs.Coherent.{addressed, whole}
 use Rattle.slice_core.proofs.LinksSteps.{links_messages}
 use Rattle.slice_core.specs.Sound.{HasLinks, IsSound}
-use Rattle.slice_queues_message.specs.declared.channel.Class.{Class}
-use Rattle.slice_queues_message.specs.declared.channel.Pick.{Pick}
+use Rattle.slice_queues.specs.declared.channel.Class.{Class}
+use Rattle.slice_queues.specs.declared.channel.Pick.{Pick}
 use Rattle.slice_answer.specs.declared.answer.Delivery.{Delivery}
 
 module _ (old : PartsView) (sound : IsSound old) (new : PartsView) where

@@ -6,7 +6,7 @@ use Rattle.slice_answer.specs.declared.answer.Evicted.{Evicted}
 use Rattle.slice_core_theory.proofs.BlocksCalls.{faithful_evicted, faithful_handed}
 use Rattle.slice_core_theory.proofs.KeptByCalls.{evicted_keeps, handed_keeps}
 use Rattle.slice_core_theory.specs.Whole.{IsWhole}
-use Rattle.slice_core_plan.specs.Calls.{PartsView, AfterEvict, AfterHand}
+use Rattle.slice_core_spec.specs.Calls.{PartsView, AfterEvict, AfterHand}
 use Rattle.slice_log.specs.declared.entry.Numbered.{Numbered}
 use Rattle.slice_core.proofs.AccountsEvict.{keeps-evict}
 use Rattle.slice_core.proofs.AccountsHand.{keeps-hand}

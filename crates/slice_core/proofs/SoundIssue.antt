@@ -8,7 +8,7 @@ use Rattle.slice_answer.specs.declared.answer.Refused.{Refused}
 use Rattle.slice_core_theory.proofs.BlocksCalls.{faithful_issue}
 use Rattle.slice_core_theory.proofs.KeptByCalls.{issue_keeps}
 use Rattle.slice_core_theory.specs.Whole.{IsWhole}
-use Rattle.slice_core_plan.specs.Calls.{PartsView, AfterIssue}
+use Rattle.slice_core_spec.specs.Calls.{PartsView, AfterIssue}
 use Rattle.slice_core.proofs.AccountsIssue.{keeps-issue}
 use Rattle.slice_core.proofs.AccountsKept.{keeps-from_sound, sound-from_keeps}
 use Rattle.slice_core.proofs.Coherent.{addressed, whole}

@@ -20,13 +20,13 @@ use Rattle.slice_core_cache.specs.declared.access.AccessKind.TheVariants as acce
 use Rattle.slice_core_cache.specs.declared.access.Ask.{Ask}
 use Rattle.slice_core_cache.specs.declared.access.Placement.{Placement}
 use Rattle.slice_core_cache.specs.declared.access.Placement.TheVariants as placements
-use Rattle.slice_core_plan.specs.Decision.{decision_of}
-use Rattle.slice_core_plan.specs.Calls.{PartsView, AfterAccess, AfterIssue, IsAccepted, LacksMemory}
-use Rattle.slice_core_plan.specs.Steps.{after_open, with_way}
-use Rattle.slice_core_plan.specs.View.{View, no_cache, cache_at}
-use Rattle.slice_core_plan.specs.declared.decision.Decision.{Decision}
-use Rattle.slice_core_plan.specs.declared.decision.Decision.TheVariants as decisions
-use Rattle.slice_core_steps.specs.CoreLines.{last_written_back}
+use Rattle.slice_core_spec.specs.Decision.{decision_of}
+use Rattle.slice_core_spec.specs.Calls.{PartsView, AfterAccess, AfterIssue, IsAccepted, LacksMemory}
+use Rattle.slice_core_spec.specs.Steps.{after_open, with_way}
+use Rattle.slice_core_spec.specs.View.{View, no_cache, cache_at}
+use Rattle.slice_core_spec.specs.declared.decision.Decision.{Decision}
+use Rattle.slice_core_spec.specs.declared.decision.Decision.TheVariants as decisions
+use Rattle.slice_core_exec.specs.CoreLines.{last_written_back}
 use Rattle.writeback_buffer.specs.declared.pending.PendingWriteBack.{PendingWriteBack}
 
 -- what was put after others is the last

@@ -8,8 +8,8 @@ use Rattle.std.specs.Option.{option_map_or}
 use Rattle.address_map.specs.Locator.{IsOfMachine}
 use Rattle.address_map.specs.declared.address.Local.{Local}
 use Rattle.address_map.specs.declared.address.WordAddr.{WordAddr}
-use Rattle.slice_core_plan.specs.View.{View, first_word, word_now}
-use Rattle.slice_core_steps.specs.NewLog.{word_of, words_now}
+use Rattle.slice_core_spec.specs.View.{View, first_word, word_now}
+use Rattle.slice_core_exec.specs.NewLog.{word_of, words_now}
 use Rattle.slice_log.specs.Log.{initially}
 
 -- The first element that passes is found.

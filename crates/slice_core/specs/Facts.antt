@@ -30,18 +30,18 @@ use Rattle.slice_core_cache.specs.declared.access.Placement.TheVariants as place
 use Rattle.slice_core_cache.specs.declared.copy.CacheCopy.{CacheCopy}
 use Rattle.slice_core_cache.specs.declared.tags.TagState.TheVariants as tag_states
 use Rattle.slice_core_theory.specs.Standing.{is_open, standings}
-use Rattle.slice_core_plan.specs.Calls.{PartsView}
-use Rattle.slice_core_plan.specs.View.{View, channels_at, entry_at, cache_at, word_now}
-use Rattle.slice_core_plan.specs.declared.decision.Decision.{Decision}
-use Rattle.slice_core_plan.specs.declared.decision.Decision.TheVariants as decisions
-use Rattle.slice_core_steps.specs.CoreLines.{last_written_back}
-use Rattle.slice_core_steps.specs.declared.line_view.LineView.{LineView}
+use Rattle.slice_core_spec.specs.Calls.{PartsView}
+use Rattle.slice_core_spec.specs.View.{View, channels_at, entry_at, cache_at, word_now}
+use Rattle.slice_core_spec.specs.declared.decision.Decision.{Decision}
+use Rattle.slice_core_spec.specs.declared.decision.Decision.TheVariants as decisions
+use Rattle.slice_core_exec.specs.CoreLines.{last_written_back}
+use Rattle.slice_core_exec.specs.declared.line_view.LineView.{LineView}
 use Rattle.slice_queues.specs.Line.{messages_at}
 use Rattle.slice_queues.specs.Waiting.{HasEachOnce, is_from_core, is_same_pick, line_waiting}
-use Rattle.slice_queues_message.specs.Pick.{channel_of, line_of}
-use Rattle.slice_queues_message.specs.declared.channel.Channel.{Channel}
-use Rattle.slice_queues_message.specs.declared.channel.Pick.{Pick}
-use Rattle.slice_queues_message.specs.declared.message.Message.{Message}
+use Rattle.slice_queues.specs.Pick.{channel_of, line_of}
+use Rattle.slice_queues.specs.declared.channel.Channel.{Channel}
+use Rattle.slice_queues.specs.declared.channel.Pick.{Pick}
+use Rattle.slice_queues.specs.declared.message.Message.{Message}
 use Rattle.target_list.specs.declared.target.Target.{Target}
 use Rattle.slice_answer.specs.declared.answer.Delivery.TheVariants as deliveries
 use Rattle.slice_answer.specs.declared.answer.Delivery.{Delivery}

@@ -1,9 +1,9 @@
 -- What a new log leaves of the one before: nothing but the values of the words.
 use Rattle.std.specs.Prelude.{◌≡◌, ◌+◌, ◌<◌, ℕ, Bool, true, false, Result, Ok, Err}
 use Rattle.address_map.specs.declared.address.Local.{Local}
-use Rattle.slice_core_plan.specs.Calls.{PartsView}
-use Rattle.slice_core_plan.specs.View.{IsQuiet, first_word}
-use Rattle.slice_core_steps.specs.NewLog.{with_new_log}
+use Rattle.slice_core_spec.specs.Calls.{PartsView}
+use Rattle.slice_core_spec.specs.View.{IsQuiet, first_word}
+use Rattle.slice_core_exec.specs.NewLog.{with_new_log}
 use Rattle.slice_core_theory.specs.Shows.{small_machine_of}
 use Rattle.slice_core_theory.specs.SmallMachine.{IsSame, new_small_machine}
 use Rattle.slice_log.specs.Log.{initially, value}

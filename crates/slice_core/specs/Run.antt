@@ -7,8 +7,8 @@ use Rattle.slice_core.specs.declared.run.CallAnswer.{CallAnswer}
 use Rattle.slice_core.specs.declared.run.CallAnswer.TheVariants as call_answers
 use Rattle.slice_core_theory.specs.SmallMachine.{Step, perform}
 use Rattle.slice_core_theory.specs.Shows.{Leads, Performs, hand_steps, issue_steps, next_of}
-use Rattle.slice_core_plan.specs.Calls.{PartsView, AfterDeliverNext, AfterDelivery, AfterEvict, AfterHand, AfterIssue}
-use Rattle.slice_core_plan.specs.View.{View}
+use Rattle.slice_core_spec.specs.Calls.{PartsView, AfterDeliverNext, AfterDelivery, AfterEvict, AfterHand, AfterIssue}
+use Rattle.slice_core_spec.specs.View.{View}
 
 -- the core that the call names, where it names one, is one of so many
 abbrev pub HasCore : ℕ → Call → Type 0

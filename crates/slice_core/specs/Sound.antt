@@ -14,11 +14,11 @@ use Rattle.slice_core_cache.specs.CoreCache.{state_of}
 use Rattle.slice_core_theory.specs.Standing.{HasNoEntry, IsAccount, target_count}
 use Rattle.slice_core.specs.Facts.{CountsAccepted}
 use Rattle.slice_core_theory.specs.Newest.{IsFaithful}
-use Rattle.slice_core_plan.specs.Calls.{PartsView}
-use Rattle.slice_core_plan.specs.View.{View, channels_at, cache_at, IsOwned, IsShaped}
+use Rattle.slice_core_spec.specs.Calls.{PartsView}
+use Rattle.slice_core_spec.specs.View.{View, channels_at, cache_at, IsOwned, IsShaped}
 use Rattle.slice_queues.specs.Line.{core_at}
-use Rattle.slice_queues_message.specs.declared.message.RequestMessage.{RequestMessage}
-use Rattle.slice_queues_message.specs.declared.message.RequestMessage.TheVariants as request_messages
+use Rattle.slice_queues.specs.declared.message.RequestMessage.{RequestMessage}
+use Rattle.slice_queues.specs.declared.message.RequestMessage.TheVariants as request_messages
 use Rattle.writeback_buffer.specs.Buffer.{held_at as buffer_at}
 
 -- ---- sizes and counts

@@ -1,7 +1,7 @@
 //! One slice of the last level with its private caches, as a pure state machine.
 //!
 //! [`SliceState`] takes the calls of cores and the deliveries of messages one at a time, in any order. What each call
-//! does is said exactly by the definitions of `slice_core_steps`; what holds after every call stands in
+//! does is said exactly by the definitions of `slice_core_exec`; what holds after every call stands in
 //! `specs/Facts.antt`: each accepted request stands in exactly one target, reply or hand-out; a core's entries of a
 //! line stand in the log in the order in which it asked for them; each copy that waits has its one miss register; each
 //! tag names what was asked for under it; and a core whose miss file is bounded by tags alone waits for no miss
@@ -28,12 +28,11 @@ pub use slice_answer::{
     Cell, Delivered, DeliveredNext, Delivery, Evicted, Issue, Refused, Stall, Stats,
 };
 pub use slice_core_cache::{AccessKind, Ask, CacheCopy, Placement, TagState};
-pub use slice_core_plan::{CopyStep, Decision, ForwardedStep, HomeStep, Plan, Transition};
-pub use slice_core_steps::{CoreLines, LineView};
+pub use slice_core_spec::{CopyStep, Decision, ForwardedStep, HomeStep, Plan, Transition};
+pub use slice_core_exec::{CoreLines, LineView};
 pub use slice_log::{Entry, Numbered};
-pub use slice_queues::{LineWaiting, Picks};
-pub use slice_queues_message::{
-    Class, DataMessage, ForwardedMessage, Message, Pick, RequestMessage,
+pub use slice_queues::{
+    Class, DataMessage, ForwardedMessage, LineWaiting, Message, Pick, Picks, RequestMessage,
 };
 pub use state::SliceState;
 

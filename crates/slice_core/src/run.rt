@@ -1,7 +1,7 @@
 use address_map::{CoreId, LineAddr, Request};
 use slice_answer::{Delivered, DeliveredNext, Evicted, Issue, Refused};
 use slice_log::Numbered;
-use slice_queues_message::{Class, Pick};
+use slice_queues::{Class, Pick};
 
 /// A call of a slice, with its arguments.
 #[derive(Clone, Copy, Debug, PartialEq, Eq)]

@@ -10,16 +10,16 @@ ghost use Rattle.slice_core.specs.Run.{AfterCall, HasCore, HasCores, IsOneRun, I
 ghost use Rattle.slice_core_cache.specs.CoreCache.{tag_at};
 ghost use Rattle.slice_core_theory.specs.SmallMachine.{IsSame, new_small_machine};
 ghost use Rattle.slice_core_theory.specs.Shows.{Leads, Performs, hand_steps, issue_steps, next_of, small_machine_of};
-ghost use Rattle.slice_core_plan.specs.Decision.{decision_of};
-ghost use Rattle.slice_core_plan.specs.Calls.{PartsView, AfterDeliverNext, AfterDelivery, AfterEvict, AfterHand};
-ghost use Rattle.slice_core_plan.specs.Calls.{AfterIssue, IsNew, IsNextPick, next_pick};
-ghost use Rattle.slice_core_plan.specs.Plan.{planned_at};
-ghost use Rattle.slice_core_plan.specs.Turn.{ServesInTurn};
-ghost use Rattle.slice_core_plan.specs.Parts.{ring_lines};
-ghost use Rattle.slice_core_plan.specs.View.{View, IsQuiet, cache_at};
-ghost use Rattle.slice_core_steps.specs.CoreLines.{last_written_back, lines_of_core};
+ghost use Rattle.slice_core_spec.specs.Decision.{decision_of};
+ghost use Rattle.slice_core_spec.specs.Calls.{PartsView, AfterDeliverNext, AfterDelivery, AfterEvict, AfterHand};
+ghost use Rattle.slice_core_spec.specs.Calls.{AfterIssue, IsNew, IsNextPick, next_pick};
+ghost use Rattle.slice_core_spec.specs.Plan.{planned_at};
+ghost use Rattle.slice_core_spec.specs.Turn.{ServesInTurn};
+ghost use Rattle.slice_core_spec.specs.Parts.{ring_lines};
+ghost use Rattle.slice_core_spec.specs.View.{View, IsQuiet, cache_at};
+ghost use Rattle.slice_core_exec.specs.CoreLines.{last_written_back, lines_of_core};
 ghost use Rattle.slice_queues.specs.Waiting.{lines_waiting};
-ghost use Rattle.slice_queues_message.specs.Pick.{channel_of, line_of as line_of_pick};
+ghost use Rattle.slice_queues.specs.Pick.{channel_of, line_of as line_of_pick};
 
 use super::run::{Call, CallAnswer};
 use address_map::{Checked, CoreId, LineAddr, Request, SliceId, WordAddr};
@@ -27,11 +27,10 @@ use arrayvec::ArrayVec;
 use mshr_file::{MissFile, Target};
 use slice_answer::{Delivered, DeliveredNext, Evicted, Issue, Refused, Stats};
 use slice_core_cache::{CacheCopy, TagState};
-use slice_core_plan::{Decision, Plan};
-use slice_core_steps::{CoreLines, LineView, Parts};
+use slice_core_spec::{Decision, Plan};
+use slice_core_exec::{CoreLines, LineView, Parts};
 use slice_log::{Entry, Numbered};
-use slice_queues::{LineWaiting, Picks};
-use slice_queues_message::{Class, Message, Pick};
+use slice_queues::{Class, LineWaiting, Message, Pick, Picks};
 use std::alloc::{AllocError, Global};
 use std::marker::Model;
 
@@ -42,7 +41,7 @@ pub struct SliceState<F: MissFile> {
 }
 
 impl<F: MissFile> Model for SliceState<F> {
-    ghost use Rattle.slice_core_plan.specs.Calls.{PartsView};
+    ghost use Rattle.slice_core_spec.specs.Calls.{PartsView};
 
     ghost Value = { PartsView };
 
@@ -132,7 +131,7 @@ impl<F: MissFile> SliceState<F> {
 
     /// Makes the delivery of the class that [`SliceState::next`] names, where one can be made. Lines are served in
     /// turn: one with messages that can be moved is passed over by no more such calls than lines are in front of it
-    /// in the ring (`lines_are_served_in_turn` of `slice_core_plan`).
+    /// in the ring (`lines_are_served_in_turn` of `slice_core_spec`).
     pub fn deliver_next(&mut self, class: Class) -> DeliveredNext
         ensures step { AfterDeliverNext self.old class result self.new }
         ensures turn { ServesInTurn self.old class result self.new }

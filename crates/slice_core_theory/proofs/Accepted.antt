@@ -17,7 +17,7 @@ use Rattle.slice_core_theory.proofs.Kept.{Free_apart, ShowsSame, same_core, cach
 use Rattle.slice_core_theory.proofs.Requests.{all-earlier}
 use Rattle.slice_core_theory.specs.SmallMachine.{Asked, IsSame, after, accept}
 use Rattle.slice_core_theory.specs.Shows.{IsAccounted, Leads, Waits, request_of_target, small_machine_of}
-use Rattle.slice_core_plan.specs.View.{View, first_word, cache_at, with_cache}
+use Rattle.slice_core_spec.specs.View.{View, first_word, cache_at, with_cache}
 use Rattle.slice_log.specs.Log.{initially}
 use Rattle.target_list.specs.declared.target.Target.{Target}
 

@@ -39,13 +39,13 @@ use Rattle.slice_core_theory.proofs.Frame.{by_copy, by_number, by_same_copies, b
 use Rattle.slice_core_theory.proofs.Frame.{with_copy_at}
 use Rattle.slice_core_theory.proofs.OwnTurns.{IsOwn, StepStands, own_row, own_step}
 use Rattle.slice_core_theory.specs.Stands.{AreReached, Stands, copies_at, kind_of_request}
-use Rattle.slice_core_plan.specs.Steps.{after_hand, after_hit, after_join, after_open, after_opening, after_request}
-use Rattle.slice_core_plan.specs.Steps.{request_of, with_way}
-use Rattle.slice_core_plan.specs.View.{View, IsShaped, channels_at, entry_at, no_cache, cache_at, with_cache}
+use Rattle.slice_core_spec.specs.Steps.{after_hand, after_hit, after_join, after_open, after_opening, after_request}
+use Rattle.slice_core_spec.specs.Steps.{request_of, with_way}
+use Rattle.slice_core_spec.specs.View.{View, IsShaped, channels_at, entry_at, no_cache, cache_at, with_cache}
 use Rattle.slice_queues.specs.Line.{LineChannels, after_send, core_at, empty_line, no_messages, with_core}
-use Rattle.slice_queues_message.specs.declared.channel.Channel.TheVariants as channels
-use Rattle.slice_queues_message.specs.declared.message.Message.TheVariants as messages
-use Rattle.slice_queues_message.specs.declared.message.RequestMessage.{RequestMessage}
+use Rattle.slice_queues.specs.declared.channel.Channel.TheVariants as channels
+use Rattle.slice_queues.specs.declared.message.Message.TheVariants as messages
+use Rattle.slice_queues.specs.declared.message.RequestMessage.{RequestMessage}
 use Rattle.writeback_buffer.specs.Buffer.{held_at as buffer_at}
 
 -- ---- rows

@@ -19,9 +19,9 @@ use Rattle.slice_core_cache.specs.Copy.{no_copy}
 use Rattle.slice_core_cache.specs.CoreCache.{CoreCacheView, copy_of}
 use Rattle.slice_core_cache.specs.declared.copy.CacheCopy.{CacheCopy}
 use Rattle.slice_core_theory.specs.Stands.{AreReached, LineStands, PartStands, Stands, copies_at}
-use Rattle.slice_core_plan.specs.Initial.{AreInitialEntries, AreNewCaches, unowned_entry}
-use Rattle.slice_core_plan.specs.Calls.{IsNew, PartsView}
-use Rattle.slice_core_plan.specs.View.{View, channels_at}
+use Rattle.slice_core_spec.specs.Initial.{AreInitialEntries, AreNewCaches, unowned_entry}
+use Rattle.slice_core_spec.specs.Calls.{IsNew, PartsView}
+use Rattle.slice_core_spec.specs.View.{View, channels_at}
 use Rattle.slice_queues.specs.Line.{CoreChannels, LineChannels, core_at, empty_line, no_messages}
 
 -- A line in which nothing waits has no message for any core.

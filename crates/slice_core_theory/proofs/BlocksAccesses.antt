@@ -27,8 +27,8 @@ use Rattle.slice_core_theory.proofs.LogElsewhere.{log_keeps}
 use Rattle.slice_core_theory.proofs.Values.{performed_legal}
 use Rattle.slice_core_theory.specs.Blocks.{AreReachedWith}
 use Rattle.slice_core_theory.specs.Stands.{copies_at}
-use Rattle.slice_core_plan.specs.Steps.{after_hit}
-use Rattle.slice_core_plan.specs.View.{View, IsShaped, channels_at, entry_at, first_word, cache_at}
+use Rattle.slice_core_spec.specs.Steps.{after_hit}
+use Rattle.slice_core_spec.specs.View.{View, IsShaped, channels_at, entry_at, first_word, cache_at}
 use Rattle.slice_log.specs.Log.{IsLegal, initially}
 use Rattle.slice_log.specs.Op.{reply_of}
 use Rattle.slice_log.specs.declared.entry.Entry.{Entry}

@@ -20,9 +20,9 @@ use Rattle.slice_log.proofs.Pushes.{IsLegal-nil}
 use Rattle.slice_log.proofs.Values.{value-nil}
 use Rattle.slice_log.specs.Log.{IsLegal, initially}
 use Rattle.address_map.specs.Place.{is_of_slice}
-use Rattle.slice_core_plan.specs.Initial.{IsInitialBlock, unowned_entry}
-use Rattle.slice_core_plan.specs.Calls.{IsNew, PartsView}
-use Rattle.slice_core_plan.specs.View.{channels_at}
+use Rattle.slice_core_spec.specs.Initial.{IsInitialBlock, unowned_entry}
+use Rattle.slice_core_spec.specs.Calls.{IsNew, PartsView}
+use Rattle.slice_core_spec.specs.View.{channels_at}
 use Rattle.protocol_coherence.specs.LineSteps.{first}
 use Rattle.protocol_coherence.specs.Values.{Blocks, beginning_with}
 use Rattle.slice_core_cache.proofs.Found.{copy_of-new}

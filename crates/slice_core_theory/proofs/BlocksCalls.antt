@@ -24,9 +24,9 @@ use Rattle.slice_core_theory.proofs.KeptByCalls.{evicted_keeps, handed_keeps, is
 use Rattle.slice_core_theory.proofs.Steps.{KeepsAccesses}
 use Rattle.slice_core_theory.specs.Newest.{IsFaithful}
 use Rattle.slice_core_theory.specs.Whole.{IsAddressed, IsWhole}
-use Rattle.slice_core_plan.specs.Calls.{PartsView, AfterEvict, AfterHand, AfterIssue}
-use Rattle.slice_core_plan.specs.Steps.{after_open}
-use Rattle.slice_core_plan.specs.View.{View}
+use Rattle.slice_core_spec.specs.Calls.{PartsView, AfterEvict, AfterHand, AfterIssue}
+use Rattle.slice_core_spec.specs.Steps.{after_open}
+use Rattle.slice_core_spec.specs.View.{View}
 use Rattle.slice_log.specs.Log.{IsLegal, initially}
 use Rattle.slice_log.specs.declared.entry.Numbered.{Numbered}
 

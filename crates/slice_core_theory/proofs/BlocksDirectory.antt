@@ -19,10 +19,10 @@ use Rattle.slice_core_theory.proofs.Places.{with_core-length}
 use Rattle.slice_core_theory.specs.Blocks.{AreReachedWith, BlocksStand, CoreBlocksStand, HasValues, block_of_data}
 use Rattle.slice_core_theory.specs.Stands.{Stands, copies_at}
 use Rattle.slice_log.specs.Log.{initially}
-use Rattle.slice_core_plan.specs.Plan.{event_of_request, plan_of}
-use Rattle.slice_core_plan.specs.Sends.{directory_sent}
-use Rattle.slice_core_plan.specs.Steps.{after_directory, block_in}
-use Rattle.slice_core_plan.specs.View.{View, IsShaped, channels_at, entry_at, first_word}
+use Rattle.slice_core_spec.specs.Plan.{event_of_request, plan_of}
+use Rattle.slice_core_spec.specs.Sends.{directory_sent}
+use Rattle.slice_core_spec.specs.Steps.{after_directory, block_in}
+use Rattle.slice_core_spec.specs.View.{View, IsShaped, channels_at, entry_at, first_word}
 use Rattle.protocol_coherence.proofs.ValueSteps.{without_blocks}
 use Rattle.protocol_coherence.specs.Line.{Line}
 use Rattle.protocol_coherence.specs.LineSteps.{Reached}
@@ -30,15 +30,15 @@ use Rattle.protocol_coherence.specs.Values.{Blocks, blocks_after, home_after_row
 use Rattle.slice_core_cache.specs.declared.copy.CacheCopy.{CacheCopy}
 use Rattle.slice_queues.proofs.InvalidateLaws.{core_at-after_invalidating}
 use Rattle.slice_queues.specs.Line.{LineChannels, after_send, after_take, core_at, with_invalidation}
-use Rattle.slice_queues_message.specs.declared.channel.Channel.TheVariants as channels
-use Rattle.slice_queues_message.specs.declared.message.DataMessage.{DataMessage}
-use Rattle.slice_queues_message.specs.declared.message.DataMessage.TheVariants as data_messages
-use Rattle.slice_queues_message.specs.declared.message.ForwardedMessage.{ForwardedMessage}
-use Rattle.slice_queues_message.specs.declared.message.ForwardedMessage.TheVariants as forwarded_messages
-use Rattle.slice_queues_message.specs.declared.message.Message.TheVariants as messages
-use Rattle.slice_queues_message.specs.declared.message.RequestMessage.{RequestMessage}
-use Rattle.slice_queues_message.specs.declared.message.RequestMessage.TheVariants as request_messages
-use Rattle.slice_core_plan.specs.Plan.{directory_move}
+use Rattle.slice_queues.specs.declared.channel.Channel.TheVariants as channels
+use Rattle.slice_queues.specs.declared.message.DataMessage.{DataMessage}
+use Rattle.slice_queues.specs.declared.message.DataMessage.TheVariants as data_messages
+use Rattle.slice_queues.specs.declared.message.ForwardedMessage.{ForwardedMessage}
+use Rattle.slice_queues.specs.declared.message.ForwardedMessage.TheVariants as forwarded_messages
+use Rattle.slice_queues.specs.declared.message.Message.TheVariants as messages
+use Rattle.slice_queues.specs.declared.message.RequestMessage.{RequestMessage}
+use Rattle.slice_queues.specs.declared.message.RequestMessage.TheVariants as request_messages
+use Rattle.slice_core_spec.specs.Plan.{directory_move}
 
 -- ---- each answer
 

@@ -24,11 +24,11 @@ use Rattle.slice_core_theory.specs.Blocks.{AreReachedWith, BlocksStand, HasValue
 use Rattle.slice_core_theory.specs.Stands.{copies_at}
 use Rattle.slice_log.specs.Log.{initially}
 use Rattle.slice_log.specs.declared.entry.Entry.{Entry}
-use Rattle.slice_core_plan.specs.Plan.{event_of_forwarded, plan_of, requester_of}
-use Rattle.slice_core_plan.specs.Sends.{cache_sent}
-use Rattle.slice_core_plan.specs.Steps.{after_forwarded}
-use Rattle.slice_core_plan.specs.View.{View, IsShaped, channels_at, entry_at, first_word, cache_at}
-use Rattle.slice_core_plan.specs.Within.{HasCopy}
+use Rattle.slice_core_spec.specs.Plan.{event_of_forwarded, plan_of, requester_of}
+use Rattle.slice_core_spec.specs.Sends.{cache_sent}
+use Rattle.slice_core_spec.specs.Steps.{after_forwarded}
+use Rattle.slice_core_spec.specs.View.{View, IsShaped, channels_at, entry_at, first_word, cache_at}
+use Rattle.slice_core_spec.specs.Within.{HasCopy}
 use Rattle.protocol_coherence.proofs.Each.{each_state, each_state-at, implies-at, not-at}
 use Rattle.protocol_coherence.proofs.ValueSteps.{without_blocks}
 use Rattle.protocol_coherence.specs.Fit.{◌implies◌}
@@ -40,12 +40,12 @@ use Rattle.slice_core_cache.specs.Kept.{IsKept}
 use Rattle.slice_core_cache.specs.Steps.{after_advance}
 use Rattle.slice_core_cache.specs.declared.copy.CacheCopy.{CacheCopy}
 use Rattle.slice_queues.specs.Line.{LineChannels, after_send, after_take, core_at, with_core}
-use Rattle.slice_queues_message.specs.declared.channel.Channel.TheVariants as channels
-use Rattle.slice_queues_message.specs.declared.message.DataMessage.TheVariants as data_messages
-use Rattle.slice_queues_message.specs.declared.message.ForwardedMessage.{ForwardedMessage}
-use Rattle.slice_queues_message.specs.declared.message.ForwardedMessage.TheVariants as forwarded_messages
-use Rattle.slice_queues_message.specs.declared.message.Message.TheVariants as messages
-use Rattle.slice_core_plan.specs.Plan.{forwarded_move}
+use Rattle.slice_queues.specs.declared.channel.Channel.TheVariants as channels
+use Rattle.slice_queues.specs.declared.message.DataMessage.TheVariants as data_messages
+use Rattle.slice_queues.specs.declared.message.ForwardedMessage.{ForwardedMessage}
+use Rattle.slice_queues.specs.declared.message.ForwardedMessage.TheVariants as forwarded_messages
+use Rattle.slice_queues.specs.declared.message.Message.TheVariants as messages
+use Rattle.slice_core_spec.specs.Plan.{forwarded_move}
 
 -- ---- the copy
 

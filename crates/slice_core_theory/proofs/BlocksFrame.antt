@@ -17,8 +17,8 @@ use Rattle.slice_core_theory.proofs.Frame.{with_copy_at}
 use Rattle.slice_core_theory.specs.Blocks.{AreReachedWith, BlocksStand, CoreBlocksStand, HasValues, IsReachedWith}
 use Rattle.slice_core_theory.specs.Blocks.{LineReachedWith}
 use Rattle.slice_core_theory.specs.Stands.{LineStands, copies_at}
-use Rattle.slice_core_plan.specs.View.{View, IsShaped, channels_at, entry_at, first_word, no_entry, no_cache, cache_at}
-use Rattle.slice_core_plan.specs.View.{with_channels, with_entry, with_cache}
+use Rattle.slice_core_spec.specs.View.{View, IsShaped, channels_at, entry_at, first_word, no_entry, no_cache, cache_at}
+use Rattle.slice_core_spec.specs.View.{with_channels, with_entry, with_cache}
 use Rattle.slice_log.specs.Log.{initially}
 use Rattle.slice_log.specs.declared.entry.Entry.{Entry}
 use Rattle.slice_queues.specs.Line.{LineChannels, core_at, empty_line}

@@ -19,14 +19,14 @@ use Rattle.slice_core_theory.proofs.Home.{comes_to, comes_home, home_step}
 use Rattle.slice_core_theory.specs.Blocks.{AreReachedWith, BlocksStand, HasValues}
 use Rattle.slice_core_theory.specs.Stands.{Stands, copies_at}
 use Rattle.slice_log.specs.Log.{initially}
-use Rattle.slice_core_plan.specs.Plan.{plan_of}
-use Rattle.slice_core_plan.specs.Steps.{after_home}
-use Rattle.slice_core_plan.specs.View.{View, IsShaped, channels_at, entry_at, first_word}
+use Rattle.slice_core_spec.specs.Plan.{plan_of}
+use Rattle.slice_core_spec.specs.Steps.{after_home}
+use Rattle.slice_core_spec.specs.View.{View, IsShaped, channels_at, entry_at, first_word}
 use Rattle.protocol_coherence.specs.Line.{Line}
 use Rattle.protocol_coherence.specs.Values.{Blocks, blocks_after, newest_after}
 use Rattle.slice_queues.specs.Line.{after_take}
-use Rattle.slice_queues_message.specs.declared.channel.Channel.TheVariants as channels
-use Rattle.slice_core_plan.specs.Plan.{home_move}
+use Rattle.slice_queues.specs.declared.channel.Channel.TheVariants as channels
+use Rattle.slice_core_spec.specs.Plan.{home_move}
 
 -- The row for a block that comes home writes it to the home copy.
 home_writes : (exclusive : Bool) (state : DirState) (owner : Option CoreId) (sharers : ℕ)

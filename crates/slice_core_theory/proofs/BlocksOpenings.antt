@@ -47,13 +47,13 @@ use Rattle.slice_core_theory.proofs.Evictions.{leaves_by, passing}
 use Rattle.slice_core_theory.proofs.Frame.{with_copy_at}
 use Rattle.slice_core_theory.specs.Blocks.{AreReachedWith, HasValues, IsReachedWith, LineReachedWith, has_block}
 use Rattle.slice_core_theory.specs.Stands.{copies_at}
-use Rattle.slice_core_plan.specs.Steps.{after_evict, after_hand, after_join, after_open, after_opening, after_request}
-use Rattle.slice_core_plan.specs.Steps.{block_in, request_of, with_way}
-use Rattle.slice_core_plan.specs.View.{View, IsShaped, channels_at, entry_at, first_word, cache_at, with_cache}
+use Rattle.slice_core_spec.specs.Steps.{after_evict, after_hand, after_join, after_open, after_opening, after_request}
+use Rattle.slice_core_spec.specs.Steps.{block_in, request_of, with_way}
+use Rattle.slice_core_spec.specs.View.{View, IsShaped, channels_at, entry_at, first_word, cache_at, with_cache}
 use Rattle.slice_log.specs.Log.{initially}
 use Rattle.slice_queues.specs.Line.{after_send}
-use Rattle.slice_queues_message.specs.declared.channel.Channel.TheVariants as channels
-use Rattle.slice_queues_message.specs.declared.message.Message.TheVariants as messages
+use Rattle.slice_queues.specs.declared.channel.Channel.TheVariants as channels
+use Rattle.slice_queues.specs.declared.message.Message.TheVariants as messages
 use Rattle.writeback_buffer.specs.Buffer.{held_at as buffer_at}
 
 -- ---- a line that leaves

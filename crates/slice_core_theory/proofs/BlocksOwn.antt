@@ -18,10 +18,10 @@ use Rattle.slice_core_theory.proofs.Frame.{with_copy_at}
 use Rattle.slice_core_theory.proofs.OwnTurns.{IsOwn, own_step}
 use Rattle.slice_core_theory.specs.Blocks.{HasValues, LineReachedWith, has_block}
 use Rattle.slice_core_theory.specs.Stands.{kind_of_request}
-use Rattle.slice_core_plan.specs.Steps.{block_in}
+use Rattle.slice_core_spec.specs.Steps.{block_in}
 use Rattle.slice_log.specs.declared.entry.Entry.{Entry}
 use Rattle.slice_queues.specs.Line.{LineChannels, core_at, with_core}
-use Rattle.slice_queues_message.specs.declared.message.RequestMessage.{RequestMessage}
+use Rattle.slice_queues.specs.declared.message.RequestMessage.{RequestMessage}
 
 -- Where the new copy and the request have their blocks, and what is newest then has what the log gives.
 pub own_reached : (exclusive : Bool) (cores : ℕ) (init : ℕ → ℕ) (log more : List Entry) (first : ℕ) (entry : DirEntry)

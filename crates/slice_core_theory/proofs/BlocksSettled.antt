@@ -31,10 +31,10 @@ use Rattle.slice_core_theory.proofs.BlocksPerforming.{AreAllowed, targets_perfor
 use Rattle.slice_core_theory.proofs.Frame.{by_number, with_copy_at}
 use Rattle.slice_core_theory.proofs.SettlingLine.{Asking, asking, asks_on, settled-counted, settled-state, stays}
 use Rattle.slice_core_theory.specs.Blocks.{LineReachedWith, has_block}
-use Rattle.slice_core_plan.specs.Steps.{asked_by}
+use Rattle.slice_core_spec.specs.Steps.{asked_by}
 use Rattle.slice_log.specs.declared.entry.Entry.{Entry}
 use Rattle.slice_queues.specs.Line.{LineChannels}
-use Rattle.slice_queues_message.specs.declared.message.RequestMessage.TheVariants as request_messages
+use Rattle.slice_queues.specs.declared.message.RequestMessage.TheVariants as request_messages
 use Rattle.target_list.specs.Target.{front_loads, is_load, reads}
 use Rattle.target_list.specs.declared.target.Target.{Target}
 

@@ -39,10 +39,10 @@ use Rattle.slice_core_theory.specs.Blocks.{AreReachedWith, HasValues, LineReache
 use Rattle.slice_core_theory.specs.Stands.{copies_at, named_by}
 use Rattle.slice_log.specs.Log.{IsLegal, initially}
 use Rattle.slice_log.specs.declared.entry.Entry.{Entry}
-use Rattle.slice_core_plan.specs.Calls.{filled_by}
-use Rattle.slice_core_plan.specs.Plan.{plan_of}
-use Rattle.slice_core_plan.specs.Steps.{after_settling, asked_by}
-use Rattle.slice_core_plan.specs.View.{View, IsShaped, channels_at, entry_at, first_word, cache_at}
+use Rattle.slice_core_spec.specs.Calls.{filled_by}
+use Rattle.slice_core_spec.specs.Plan.{plan_of}
+use Rattle.slice_core_spec.specs.Steps.{after_settling, asked_by}
+use Rattle.slice_core_spec.specs.View.{View, IsShaped, channels_at, entry_at, first_word, cache_at}
 use Rattle.protocol_coherence.proofs.Each.{each_state, each_state-at, if_go, if_go-at, implies-at, not-at}
 use Rattle.protocol_coherence.proofs.ValueSteps.{without_blocks}
 use Rattle.protocol_coherence.specs.Fit.{◌implies◌}
@@ -58,13 +58,13 @@ use Rattle.slice_core_cache.specs.Steps.{copy_after_ack, after_change, after_set
 use Rattle.slice_core_cache.specs.Targets.{IsPerformable}
 use Rattle.slice_core_cache.specs.declared.copy.CacheCopy.{CacheCopy}
 use Rattle.slice_queues.specs.Line.{CoreChannels, LineChannels, after_take, core_at}
-use Rattle.slice_queues_message.specs.declared.channel.Channel.{Channel}
-use Rattle.slice_queues_message.specs.declared.channel.Channel.TheVariants as channels
-use Rattle.slice_queues_message.specs.declared.message.DataMessage.{DataMessage}
-use Rattle.slice_queues_message.specs.declared.message.DataMessage.TheVariants as data_messages
+use Rattle.slice_queues.specs.declared.channel.Channel.{Channel}
+use Rattle.slice_queues.specs.declared.channel.Channel.TheVariants as channels
+use Rattle.slice_queues.specs.declared.message.DataMessage.{DataMessage}
+use Rattle.slice_queues.specs.declared.message.DataMessage.TheVariants as data_messages
 use Rattle.target_list.specs.Target.{is_load}
 use Rattle.target_list.specs.declared.target.Target.{Target}
-use Rattle.slice_core_plan.specs.Plan.{ack_move, fill_move}
+use Rattle.slice_core_spec.specs.Plan.{ack_move, fill_move}
 
 -- ---- rows
 

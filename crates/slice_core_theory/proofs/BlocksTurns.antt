@@ -15,14 +15,14 @@ use Rattle.slice_core_theory.proofs.Frame.{by_number, with_copy_at}
 use Rattle.slice_core_theory.proofs.OwnTurns.{IsOwn, own_at_hand, own_row, own_step}
 use Rattle.slice_core_theory.specs.Blocks.{BlocksStand, CoreBlocksStand, has_block}
 use Rattle.slice_core_theory.specs.Stands.{LineStands, kind_of_request}
-use Rattle.slice_core_plan.specs.Steps.{block_in}
+use Rattle.slice_core_spec.specs.Steps.{block_in}
 use Rattle.protocol_coherence.specs.Line.{Line}
 use Rattle.protocol_coherence.specs.LineSteps.{Reached, Step, asks_for, stands, turn}
 use Rattle.protocol_coherence.specs.Values.{Blocks, blocks_after, block_after_row, newest_after, performs}
 use Rattle.cache_table.specs.CopyState.{is_waiting}
 use Rattle.slice_core_cache.specs.declared.copy.CacheCopy.{CacheCopy}
 use Rattle.slice_queues.specs.Line.{CoreChannels, LineChannels, core_at, with_core}
-use Rattle.slice_queues_message.specs.declared.message.RequestMessage.{RequestMessage}
+use Rattle.slice_queues.specs.declared.message.RequestMessage.{RequestMessage}
 
 -- the block of a core's PutM after a row that sends this
 abbrev pub put_after : CacheSends → Block → Block → Block

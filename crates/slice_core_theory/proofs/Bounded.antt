@@ -18,14 +18,14 @@ use Rattle.slice_core_theory.specs.Coherent.{HasBoundedChannels}
 use Rattle.slice_core_theory.specs.Stands.{AreReached, LineStands, copies_at, queued_forward, queued_inv}
 use Rattle.slice_core_theory.specs.Stands.{queued_put_ack}
 use Rattle.slice_core_theory.specs.Whole.{IsWhole}
-use Rattle.slice_core_plan.specs.View.{View, channels_at, entry_at}
+use Rattle.slice_core_spec.specs.View.{View, channels_at, entry_at}
 use Rattle.slice_queues.specs.Line.{CoreChannels, HasChannel, LineChannels, ack_messages, core_at, data_messages}
 use Rattle.slice_queues.specs.Line.{home_messages, messages_at, no_messages, request_messages, room_of}
-use Rattle.slice_queues_message.specs.declared.channel.Channel.{Channel}
-use Rattle.slice_queues_message.specs.declared.channel.Channel.TheVariants as channels
-use Rattle.slice_queues_message.specs.declared.message.DataMessage.{DataMessage}
-use Rattle.slice_queues_message.specs.declared.message.Message.TheVariants as messages
-use Rattle.slice_queues_message.specs.declared.message.RequestMessage.{RequestMessage}
+use Rattle.slice_queues.specs.declared.channel.Channel.{Channel}
+use Rattle.slice_queues.specs.declared.channel.Channel.TheVariants as channels
+use Rattle.slice_queues.specs.declared.message.DataMessage.{DataMessage}
+use Rattle.slice_queues.specs.declared.message.Message.TheVariants as messages
+use Rattle.slice_queues.specs.declared.message.RequestMessage.{RequestMessage}
 
 -- ---- one channel
 

@@ -12,7 +12,7 @@ use Rattle.slice_core_theory.proofs.KeptByCalls.{evicted_keeps, handed_keeps, is
 use Rattle.slice_core_theory.proofs.Steps.{KeepsAccesses}
 use Rattle.slice_core_theory.specs.Stands.{AreReached}
 use Rattle.slice_core_theory.specs.Whole.{IsWhole}
-use Rattle.slice_core_plan.specs.Calls.{PartsView, AfterEvict, AfterHand, AfterIssue}
+use Rattle.slice_core_spec.specs.Calls.{PartsView, AfterEvict, AfterHand, AfterIssue}
 use Rattle.slice_log.specs.declared.entry.Numbered.{Numbered}
 
 accesses_keep : KeepsAccesses IsWhole AreReached

@@ -6,7 +6,7 @@ use Rattle.protocol_coherence.proofs.Promises.{reached_one_writer}
 use Rattle.slice_core_cache.specs.CoreCache.{state_of}
 use Rattle.slice_core_theory.specs.Coherent.{HasOneWriter}
 use Rattle.slice_core_theory.specs.Stands.{AreReached}
-use Rattle.slice_core_plan.specs.View.{View, cache_at}
+use Rattle.slice_core_spec.specs.View.{View, cache_at}
 
 -- Where one core may write a line, no other core may read it.
 pub one_writer : (v : View) → length v.caches ≤ 64 → AreReached v → HasOneWriter v

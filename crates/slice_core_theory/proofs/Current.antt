@@ -17,13 +17,13 @@ use Rattle.slice_core_cache.specs.declared.copy.CacheCopy.{CacheCopy}
 use Rattle.slice_core_theory.specs.Blocks.{AreReachedWith, HasValues, LineReachedWith, block_of_data, has_block}
 use Rattle.slice_core_theory.specs.Newest.{HasNewest, carried_block}
 use Rattle.slice_core_theory.specs.Stands.{AreReached, kind_of_data, kind_of_request}
-use Rattle.slice_core_plan.specs.Steps.{block_in}
-use Rattle.slice_core_plan.specs.View.{View}
+use Rattle.slice_core_spec.specs.Steps.{block_in}
+use Rattle.slice_core_spec.specs.View.{View}
 use Rattle.slice_log.specs.declared.entry.Entry.{Entry}
 use Rattle.slice_queues.specs.Line.{LineChannels, core_at}
-use Rattle.slice_queues_message.specs.declared.message.DataMessage.{DataMessage}
-use Rattle.slice_queues_message.specs.declared.message.DataMessage.TheVariants as data_messages
-use Rattle.slice_queues_message.specs.declared.message.RequestMessage.TheVariants as request_messages
+use Rattle.slice_queues.specs.declared.message.DataMessage.{DataMessage}
+use Rattle.slice_queues.specs.declared.message.DataMessage.TheVariants as data_messages
+use Rattle.slice_queues.specs.declared.message.RequestMessage.TheVariants as request_messages
 
 -- A copy that may be read has a block.
 pub readable_has_block : (state : CopyState) → is_readable state ≡ true → has_block state ≡ true

@@ -16,11 +16,11 @@ use Rattle.slice_core_theory.proofs.Kept.{ShowsSame, kept-of, leads-same, same-v
 use Rattle.slice_core_theory.proofs.MachinePlanned.{held-at_way, is_for_copy, way_in, planned-core, planned-way}
 use Rattle.slice_core_theory.proofs.MachineSettled.{settled_performs}
 use Rattle.slice_core_theory.specs.Shows.{IsAccounted, Performs}
-use Rattle.slice_core_plan.specs.Calls.{AfterDeliverNext, AfterDelivery, AfterPlan, IsDone, PartsView, Settles, core_of}
-use Rattle.slice_core_plan.specs.Calls.{local_in}
-use Rattle.slice_core_plan.specs.Plan.{plan_of, planned_in}
-use Rattle.slice_core_plan.specs.Steps.{after_forwarded, after_settling}
-use Rattle.slice_core_plan.specs.View.{View, cache_at}
+use Rattle.slice_core_spec.specs.Calls.{AfterDeliverNext, AfterDelivery, AfterPlan, IsDone, PartsView, Settles, core_of}
+use Rattle.slice_core_spec.specs.Calls.{local_in}
+use Rattle.slice_core_spec.specs.Plan.{plan_of, planned_in}
+use Rattle.slice_core_spec.specs.Steps.{after_forwarded, after_settling}
+use Rattle.slice_core_spec.specs.View.{View, cache_at}
 use Rattle.slice_core_cache.specs.Copy.{is_gone, no_copy}
 use Rattle.slice_core_cache.specs.Perform.{performed_in, tags_after}
 use Rattle.slice_core_cache.specs.CoreCache.{CoreCacheView, array_copy}
@@ -28,15 +28,15 @@ use Rattle.slice_core_cache.specs.Steps as caches
 use Rattle.slice_core_cache.specs.declared.copy.CacheCopy.{CacheCopy}
 use Rattle.cache_table.specs.declared.row.CacheSends.{CacheSends}
 use Rattle.cache_table.specs.declared.state.CopyState.{CopyState}
-use Rattle.slice_queues_message.specs.Pick.{channel_of, line_of}
-use Rattle.slice_queues_message.specs.declared.channel.Channel.{Channel}
-use Rattle.slice_queues_message.specs.declared.channel.Class.{Class}
-use Rattle.slice_queues_message.specs.declared.channel.Pick.{Pick}
+use Rattle.slice_queues.specs.Pick.{channel_of, line_of}
+use Rattle.slice_queues.specs.declared.channel.Channel.{Channel}
+use Rattle.slice_queues.specs.declared.channel.Class.{Class}
+use Rattle.slice_queues.specs.declared.channel.Pick.{Pick}
 use Rattle.slice_answer.specs.declared.answer.Delivery.TheVariants as deliveries
 use Rattle.slice_answer.specs.declared.answer.Delivery.{Delivery}
-use Rattle.slice_core_plan.specs.Plan.{ack_move, fill_move, forwarded_move}
-use Rattle.slice_core_plan.specs.declared.transition.Transition.TheVariants as transitions
-use Rattle.slice_core_plan.specs.declared.transition.Transition.{Transition}
+use Rattle.slice_core_spec.specs.Plan.{ack_move, fill_move, forwarded_move}
+use Rattle.slice_core_spec.specs.declared.transition.Transition.TheVariants as transitions
+use Rattle.slice_core_spec.specs.declared.transition.Transition.{Transition}
 
 -- Where the same is shown nothing was performed.
 performs-none : (old new : View) → ShowsSame old new → Performs old new

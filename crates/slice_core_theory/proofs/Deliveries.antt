@@ -9,9 +9,9 @@ use Rattle.slice_core_theory.proofs.Settling.{count_reached, fill_reached}
 use Rattle.slice_core_theory.proofs.Steps.{KeepsMessages}
 use Rattle.slice_core_theory.specs.Stands.{AreReached}
 use Rattle.slice_core_theory.specs.Whole.{IsWhole}
-use Rattle.slice_core_plan.specs.Calls.{PartsView, AfterDeliverNext, AfterDelivery}
-use Rattle.slice_queues_message.specs.declared.channel.Class.{Class}
-use Rattle.slice_queues_message.specs.declared.channel.Pick.{Pick}
+use Rattle.slice_core_spec.specs.Calls.{PartsView, AfterDeliverNext, AfterDelivery}
+use Rattle.slice_queues.specs.declared.channel.Class.{Class}
+use Rattle.slice_queues.specs.declared.channel.Pick.{Pick}
 use Rattle.slice_answer.specs.declared.answer.Delivery.{Delivery}
 
 messages_keep : KeepsMessages IsWhole AreReached

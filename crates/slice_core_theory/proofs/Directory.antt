@@ -20,10 +20,10 @@ use Rattle.slice_core_theory.proofs.Served.{MayServe, acks-sent, after_row, aske
 use Rattle.slice_core_theory.proofs.Served.{debt-forwarded, debt_if, debt_of, home-sent, owes-served, row_here}
 use Rattle.slice_core_theory.proofs.Served.{same_service, serve_stands, served, taken_line, within_here}
 use Rattle.slice_core_theory.specs.Stands.{AreReached, LineStands, Stands, copies_at, kind_of_request}
-use Rattle.slice_core_plan.specs.Plan.{event_of_request, plan_of}
-use Rattle.slice_core_plan.specs.Sends.{directory_sent}
-use Rattle.slice_core_plan.specs.Steps.{after_directory, block_in}
-use Rattle.slice_core_plan.specs.View.{View, IsShaped, channels_at, entry_at}
+use Rattle.slice_core_spec.specs.Plan.{event_of_request, plan_of}
+use Rattle.slice_core_spec.specs.Sends.{directory_sent}
+use Rattle.slice_core_spec.specs.Steps.{after_directory, block_in}
+use Rattle.slice_core_spec.specs.View.{View, IsShaped, channels_at, entry_at}
 use Rattle.protocol_coherence.proofs.Frame.{at_place}
 use Rattle.protocol_coherence.proofs.Promises.{reached_has_room}
 use Rattle.protocol_coherence.specs.Fit.{is_counting, is_no_data}
@@ -34,10 +34,10 @@ use Rattle.protocol_coherence.specs.LineSteps.{invalidated_by, is_asked_for, ser
 use Rattle.protocol_coherence.specs.Promise.{HasRoomAtService}
 use Rattle.slice_core_cache.specs.declared.copy.CacheCopy.{CacheCopy}
 use Rattle.slice_queues.specs.Line.{LineChannels, after_take, core_at}
-use Rattle.slice_queues_message.specs.declared.channel.Channel.TheVariants as channels
-use Rattle.slice_queues_message.specs.declared.message.RequestMessage.TheVariants as request_messages
-use Rattle.slice_queues_message.specs.declared.message.RequestMessage.{RequestMessage}
-use Rattle.slice_core_plan.specs.Plan.{directory_move}
+use Rattle.slice_queues.specs.declared.channel.Channel.TheVariants as channels
+use Rattle.slice_queues.specs.declared.message.RequestMessage.TheVariants as request_messages
+use Rattle.slice_queues.specs.declared.message.RequestMessage.{RequestMessage}
+use Rattle.slice_core_spec.specs.Plan.{directory_move}
 
 -- ---- what the line after the row says of the line before
 

@@ -12,7 +12,7 @@ use Rattle.slice_core_theory.proofs.Requests.{all-earlier, logged, none-containe
 use Rattle.slice_core_theory.specs.SmallMachine.{Asked, IsNewest, IsOldest, IsSame, SmallMachine, accept, after, hand}
 use Rattle.slice_core_theory.specs.SmallMachine.{perform}
 use Rattle.slice_core_theory.specs.Shows.{IsAccounted, IsNamed, Leads, Waits, small_machine_of}
-use Rattle.slice_core_plan.specs.View.{View, cache_at}
+use Rattle.slice_core_spec.specs.View.{View, cache_at}
 use Rattle.slice_log.specs.Log.{IsLegal, initially}
 use Rattle.slice_log.specs.declared.entry.Entry.{Entry}
 use Rattle.target_list.specs.declared.target.Target.{Target}

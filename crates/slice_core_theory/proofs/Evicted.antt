@@ -12,9 +12,9 @@ use Rattle.slice_core_cache.specs.CoreCache.{CoreCacheView}
 use Rattle.slice_core_cache.specs.Steps as caches
 use Rattle.slice_core_theory.proofs.Kept.{kept-of, leads-same, same-view}
 use Rattle.slice_core_theory.specs.Shows.{Leads}
-use Rattle.slice_core_plan.specs.Calls.{PartsView, AfterEvict}
-use Rattle.slice_core_plan.specs.Steps.{after_evict}
-use Rattle.slice_core_plan.specs.View.{cache_at}
+use Rattle.slice_core_spec.specs.Calls.{PartsView, AfterEvict}
+use Rattle.slice_core_spec.specs.Steps.{after_evict}
+use Rattle.slice_core_spec.specs.View.{cache_at}
 use Rattle.slice_queues.specs.Ring.{with_listed}
 
 module _ (old : PartsView) (core : CoreId) (line : LineAddr) (answer : Evicted) (new : PartsView)

@@ -25,11 +25,11 @@ use Rattle.slice_core_cache.specs.declared.copy.CacheCopy.{CacheCopy}
 use Rattle.slice_core_theory.proofs.Frame.{by_cache, with_copy_at}
 use Rattle.slice_core_theory.proofs.OwnTurns.{StepStands, own_step}
 use Rattle.slice_core_theory.specs.Stands.{AreReached, Stands, copies_at, kind_of_request}
-use Rattle.slice_core_plan.specs.Steps.{after_evict, after_request}
-use Rattle.slice_core_plan.specs.View.{View, IsShaped, channels_at, entry_at, cache_at, with_cache}
+use Rattle.slice_core_spec.specs.Steps.{after_evict, after_request}
+use Rattle.slice_core_spec.specs.View.{View, IsShaped, channels_at, entry_at, cache_at, with_cache}
 use Rattle.slice_queues.specs.Line.{after_send}
-use Rattle.slice_queues_message.specs.declared.channel.Channel.TheVariants as channels
-use Rattle.slice_queues_message.specs.declared.message.Message.TheVariants as messages
+use Rattle.slice_queues.specs.declared.channel.Channel.TheVariants as channels
+use Rattle.slice_queues.specs.declared.message.Message.TheVariants as messages
 
 -- ---- the row
 

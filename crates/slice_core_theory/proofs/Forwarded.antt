@@ -28,11 +28,11 @@ use Rattle.slice_core_theory.proofs.Rows.{answers, sends_for}
 use Rattle.slice_core_theory.proofs.Turns.{IsQuiet, turn_stands}
 use Rattle.slice_core_theory.specs.Stands.{AcksStand, AreReached, EntryStands, LineStands, PartStands, Stands}
 use Rattle.slice_core_theory.specs.Stands.{copies_at}
-use Rattle.slice_core_plan.specs.Plan.{event_of_forwarded, plan_of, requester_of}
-use Rattle.slice_core_plan.specs.Sends.{cache_sent}
-use Rattle.slice_core_plan.specs.Steps.{after_forwarded}
-use Rattle.slice_core_plan.specs.View.{View, IsShaped, channels_at, entry_at, cache_at}
-use Rattle.slice_core_plan.specs.Within.{HasCopy}
+use Rattle.slice_core_spec.specs.Plan.{event_of_forwarded, plan_of, requester_of}
+use Rattle.slice_core_spec.specs.Sends.{cache_sent}
+use Rattle.slice_core_spec.specs.Steps.{after_forwarded}
+use Rattle.slice_core_spec.specs.View.{View, IsShaped, channels_at, entry_at, cache_at}
+use Rattle.slice_core_spec.specs.Within.{HasCopy}
 use Rattle.protocol_coherence.proofs.Frame.{at_place}
 use Rattle.protocol_coherence.proofs.Promises.{reached_has_room, reached_has_rows}
 use Rattle.protocol_coherence.specs.Fit.{is_counting, is_no_data}
@@ -46,12 +46,12 @@ use Rattle.slice_core_cache.specs.CoreCache.{copy_of, state_of}
 use Rattle.slice_core_cache.specs.Steps.{after_advance}
 use Rattle.slice_core_cache.specs.declared.copy.CacheCopy.{CacheCopy}
 use Rattle.slice_queues.specs.Line.{CoreChannels, LineChannels, after_send, after_take, core_at, no_messages, with_core}
-use Rattle.slice_queues_message.specs.declared.channel.Channel.TheVariants as channels
-use Rattle.slice_queues_message.specs.declared.message.DataMessage.TheVariants as data_messages
-use Rattle.slice_queues_message.specs.declared.message.ForwardedMessage.TheVariants as forwarded_messages
-use Rattle.slice_queues_message.specs.declared.message.ForwardedMessage.{ForwardedMessage}
-use Rattle.slice_queues_message.specs.declared.message.Message.TheVariants as messages
-use Rattle.slice_core_plan.specs.Plan.{forwarded_move}
+use Rattle.slice_queues.specs.declared.channel.Channel.TheVariants as channels
+use Rattle.slice_queues.specs.declared.message.DataMessage.TheVariants as data_messages
+use Rattle.slice_queues.specs.declared.message.ForwardedMessage.TheVariants as forwarded_messages
+use Rattle.slice_queues.specs.declared.message.ForwardedMessage.{ForwardedMessage}
+use Rattle.slice_queues.specs.declared.message.Message.TheVariants as messages
+use Rattle.slice_core_spec.specs.Plan.{forwarded_move}
 
 -- ---- the line
 

@@ -15,10 +15,10 @@ use Rattle.cache_table.specs.declared.state.CopyState.TheVariants as copy_states
 use Rattle.slice_core_theory.proofs.Parts.{IsFirst, first_taken}
 use Rattle.slice_core_theory.proofs.Rows.{IsAnswer, sends_for}
 use Rattle.slice_core_theory.specs.Stands.{PartStands}
-use Rattle.slice_core_plan.specs.Plan.{asks, by_forwarded_row, event_of_forwarded, forwarded_by, is_put_ack}
-use Rattle.slice_core_plan.specs.Plan.{requester_of}
-use Rattle.slice_core_plan.specs.Sends.{cache_room}
-use Rattle.slice_core_plan.specs.View.{View, channels_at, cache_at}
+use Rattle.slice_core_spec.specs.Plan.{asks, by_forwarded_row, event_of_forwarded, forwarded_by, is_put_ack}
+use Rattle.slice_core_spec.specs.Plan.{requester_of}
+use Rattle.slice_core_spec.specs.Sends.{cache_room}
+use Rattle.slice_core_spec.specs.View.{View, channels_at, cache_at}
 use Rattle.slice_answer.specs.declared.answer.Cell.TheVariants as cells
 use Rattle.protocol_coherence.specs.Line.{Part}
 use Rattle.protocol_coherence.specs.LineSteps.{part_after_row, asks_for, change_if, part_with_data, stands_ack}
@@ -28,13 +28,13 @@ use Rattle.slice_core_cache.specs.Copy.{is_gone, no_copy}
 use Rattle.slice_core_cache.specs.CoreCache.{state_of}
 use Rattle.slice_core_cache.specs.declared.copy.CacheCopy.{CacheCopy}
 use Rattle.slice_queues.specs.Line.{CoreChannels, core_at}
-use Rattle.slice_queues_message.specs.declared.message.ForwardedMessage.{ForwardedMessage}
-use Rattle.slice_queues_message.specs.declared.message.ForwardedMessage.TheVariants as forwarded_messages
+use Rattle.slice_queues.specs.declared.message.ForwardedMessage.{ForwardedMessage}
+use Rattle.slice_queues.specs.declared.message.ForwardedMessage.TheVariants as forwarded_messages
 use Rattle.slice_answer.specs.declared.answer.Delivery.TheVariants as deliveries
 use Rattle.slice_answer.specs.declared.answer.Delivery.{Delivery}
-use Rattle.slice_core_plan.specs.Plan.{forwarded_move}
-use Rattle.slice_core_plan.specs.declared.transition.Transition.TheVariants as transitions
-use Rattle.slice_core_plan.specs.declared.transition.Transition.{Transition}
+use Rattle.slice_core_spec.specs.Plan.{forwarded_move}
+use Rattle.slice_core_spec.specs.declared.transition.Transition.TheVariants as transitions
+use Rattle.slice_core_spec.specs.declared.transition.Transition.{Transition}
 
 -- ---- the row that was planned
 

@@ -11,9 +11,9 @@ use Rattle.protocol_coherence.specs.LineSteps.{Reached}
 use Rattle.slice_core_cache.specs.CoreCache.{CoreCacheView, copy_of}
 use Rattle.slice_core_cache.specs.declared.copy.CacheCopy.{CacheCopy}
 use Rattle.slice_core_theory.specs.Stands.{AreReached, IsReached, LineStands, Stands, copies_at}
-use Rattle.slice_core_plan.specs.View.{View, IsShaped, channels_at, entry_at, no_entry, no_cache, cache_at}
-use Rattle.slice_core_plan.specs.View.{with_channels}
-use Rattle.slice_core_plan.specs.View.{with_entry, with_cache}
+use Rattle.slice_core_spec.specs.View.{View, IsShaped, channels_at, entry_at, no_entry, no_cache, cache_at}
+use Rattle.slice_core_spec.specs.View.{with_channels}
+use Rattle.slice_core_spec.specs.View.{with_entry, with_cache}
 use Rattle.slice_log.specs.declared.entry.Entry.{Entry}
 use Rattle.slice_queues.specs.Line.{LineChannels, empty_line}
 

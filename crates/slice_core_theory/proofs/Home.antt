@@ -16,18 +16,18 @@ use Rattle.directory_table.specs.declared.state.DirState.TheVariants as dir_stat
 use Rattle.slice_core_theory.proofs.Served.{row_here}
 use Rattle.slice_core_theory.proofs.Frame.{by_entry}
 use Rattle.slice_core_theory.specs.Stands.{AreReached, LineStands, Stands, copies_at}
-use Rattle.slice_core_plan.specs.Plan.{by_home_row, plan_of}
-use Rattle.slice_core_plan.specs.Steps.{after_home}
-use Rattle.slice_core_plan.specs.View.{View, IsShaped, channels_at, entry_at}
+use Rattle.slice_core_spec.specs.Plan.{by_home_row, plan_of}
+use Rattle.slice_core_spec.specs.Steps.{after_home}
+use Rattle.slice_core_spec.specs.View.{View, IsShaped, channels_at, entry_at}
 use Rattle.protocol_coherence.specs.Line.{Line}
 use Rattle.protocol_coherence.specs.LineSteps.{Step, after, further, serve}
 use Rattle.slice_queues.specs.Line.{after_take}
-use Rattle.slice_queues_message.specs.declared.channel.Channel.TheVariants as channels
+use Rattle.slice_queues.specs.declared.channel.Channel.TheVariants as channels
 use Rattle.slice_answer.specs.declared.answer.Delivery.TheVariants as deliveries
 use Rattle.slice_answer.specs.declared.answer.Delivery.{Delivery}
-use Rattle.slice_core_plan.specs.Plan.{home_move}
-use Rattle.slice_core_plan.specs.declared.transition.Transition.TheVariants as transitions
-use Rattle.slice_core_plan.specs.declared.transition.Transition.{Transition}
+use Rattle.slice_core_spec.specs.Plan.{home_move}
+use Rattle.slice_core_spec.specs.declared.transition.Transition.TheVariants as transitions
+use Rattle.slice_core_spec.specs.declared.transition.Transition.{Transition}
 
 -- A block that comes home makes the directory send nothing.
 home_row : (exclusive : Bool) (state : DirState) (owner : Option CoreId) (sharers : ℕ)

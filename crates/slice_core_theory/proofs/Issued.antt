@@ -29,13 +29,13 @@ use Rattle.slice_core_theory.proofs.Kept.{ShowsSame, kept-of, leads-same, same-v
 use Rattle.slice_core_theory.proofs.Requests.{word_at_offset}
 use Rattle.slice_core_theory.specs.SmallMachine.{Asked, accept, hand, perform}
 use Rattle.slice_core_theory.specs.Shows.{IsAccounted, Leads, request_of_target, issue_steps, next_of}
-use Rattle.slice_core_plan.specs.Decision.{decision_of}
-use Rattle.slice_core_plan.specs.Calls.{PartsView, target_for, AfterAccepting, AfterAccess, AfterIssue, IsAccepted}
-use Rattle.slice_core_plan.specs.Calls.{LacksMemory}
-use Rattle.slice_core_plan.specs.Steps.{after_hit, after_join, after_open, is_held, with_way}
-use Rattle.slice_core_plan.specs.View.{View, first_word, cache_at}
-use Rattle.slice_core_plan.specs.declared.decision.Decision.{Decision}
-use Rattle.slice_core_plan.specs.declared.decision.Decision.TheVariants as decisions
+use Rattle.slice_core_spec.specs.Decision.{decision_of}
+use Rattle.slice_core_spec.specs.Calls.{PartsView, target_for, AfterAccepting, AfterAccess, AfterIssue, IsAccepted}
+use Rattle.slice_core_spec.specs.Calls.{LacksMemory}
+use Rattle.slice_core_spec.specs.Steps.{after_hit, after_join, after_open, is_held, with_way}
+use Rattle.slice_core_spec.specs.View.{View, first_word, cache_at}
+use Rattle.slice_core_spec.specs.declared.decision.Decision.{Decision}
+use Rattle.slice_core_spec.specs.declared.decision.Decision.TheVariants as decisions
 use Rattle.slice_log.specs.Log.{IsLegal, initially}
 use Rattle.target_list.specs.declared.target.Target.{Target}
 

@@ -10,7 +10,7 @@ use Rattle.slice_core_cache.specs.CoreCache.{CoreCacheView, tag_at}
 use Rattle.slice_core_cache.specs.declared.tags.TagState.TheVariants as tag_states
 use Rattle.slice_core_theory.specs.SmallMachine.{Asked, IsSame}
 use Rattle.slice_core_theory.specs.Shows.{Leads, Waits, small_machine_of}
-use Rattle.slice_core_plan.specs.View.{View, no_cache, cache_at, with_cache}
+use Rattle.slice_core_spec.specs.View.{View, no_cache, cache_at, with_cache}
 
 pub same_core : (a b : CoreId) → a.0 ≡ b.0 → a ≡ b
 same_core a b e = let named : ℕ → CoreId = λ n. record { 0 = n } in ap named e

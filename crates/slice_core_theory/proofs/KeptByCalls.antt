@@ -29,13 +29,13 @@ use Rattle.slice_core_theory.proofs.Judged.{is_judged}
 use Rattle.slice_core_theory.proofs.Steps.{KeepsAccesses}
 use Rattle.slice_core_theory.proofs.Victims.{has_victim_for}
 use Rattle.slice_core_theory.specs.Whole.{IsWhole}
-use Rattle.slice_core_plan.specs.Decision.{decision_at, decision_of, is_counter, overwrites}
-use Rattle.slice_core_plan.specs.Calls.{PartsView, target_for, AfterAccepting, AfterAccess, AfterEvict, AfterHand}
-use Rattle.slice_core_plan.specs.Calls.{AfterIssue, IsAccepted, LacksMemory}
-use Rattle.slice_core_plan.specs.Steps.{after_evict}
-use Rattle.slice_core_plan.specs.View.{View, cache_at}
-use Rattle.slice_core_plan.specs.declared.decision.Decision.{Decision}
-use Rattle.slice_core_plan.specs.declared.decision.Decision.TheVariants as decisions
+use Rattle.slice_core_spec.specs.Decision.{decision_at, decision_of, is_counter, overwrites}
+use Rattle.slice_core_spec.specs.Calls.{PartsView, target_for, AfterAccepting, AfterAccess, AfterEvict, AfterHand}
+use Rattle.slice_core_spec.specs.Calls.{AfterIssue, IsAccepted, LacksMemory}
+use Rattle.slice_core_spec.specs.Steps.{after_evict}
+use Rattle.slice_core_spec.specs.View.{View, cache_at}
+use Rattle.slice_core_spec.specs.declared.decision.Decision.{Decision}
+use Rattle.slice_core_spec.specs.declared.decision.Decision.TheVariants as decisions
 use Rattle.slice_log.specs.declared.entry.Numbered.{Numbered}
 use Rattle.slice_queues.specs.Ring.{with_listed}
 

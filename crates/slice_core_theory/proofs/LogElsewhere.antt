@@ -10,7 +10,7 @@ use Rattle.slice_core_theory.proofs.Values.{values_elsewhere}
 use Rattle.slice_core_theory.specs.Blocks.{HasValues}
 use Rattle.slice_log.specs.Log.{initially}
 use Rattle.slice_log.specs.declared.entry.Entry.{Entry}
-use Rattle.slice_core_plan.specs.View.{View, first_word}
+use Rattle.slice_core_spec.specs.View.{View, first_word}
 use Rattle.slice_core_cache.specs.Copy.{performed_on}
 use Rattle.slice_core_cache.specs.Perform.{entries_of}
 use Rattle.cache_table.specs.declared.state.CopyState.{CopyState}

@@ -13,8 +13,8 @@ use Rattle.slice_core_theory.proofs.Kept.{Free_apart}
 use Rattle.slice_core_theory.proofs.Requests.{none-contained}
 use Rattle.slice_core_theory.specs.SmallMachine.{IsSame, new_small_machine}
 use Rattle.slice_core_theory.specs.Shows.{small_machine_of}
-use Rattle.slice_core_plan.specs.Calls.{IsNew, PartsView}
-use Rattle.slice_core_plan.specs.View.{no_cache, cache_at}
+use Rattle.slice_core_spec.specs.Calls.{IsNew, PartsView}
+use Rattle.slice_core_spec.specs.View.{no_cache, cache_at}
 
 -- a core that asked for nothing: it waits for nothing, and none of its tags names an entry
 record HasAskedNothing (cache : CoreCacheView) : Type 0 where

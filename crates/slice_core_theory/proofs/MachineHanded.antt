@@ -14,9 +14,9 @@ use Rattle.slice_core_theory.proofs.Named.{number_is}
 use Rattle.slice_core_theory.specs.SmallMachine.{Asked, IsSame, after, hand}
 use Rattle.slice_core_theory.specs.Shows.{IsAccounted, Leads, hand_steps, small_machine_of}
 use Rattle.slice_log.specs.Log.{initially}
-use Rattle.slice_core_plan.specs.Calls.{AfterHand, PartsView}
-use Rattle.slice_core_plan.specs.Steps.{after_hand}
-use Rattle.slice_core_plan.specs.View.{View, cache_at}
+use Rattle.slice_core_spec.specs.Calls.{AfterHand, PartsView}
+use Rattle.slice_core_spec.specs.Steps.{after_hand}
+use Rattle.slice_core_spec.specs.View.{View, cache_at}
 use Rattle.slice_core_cache.specs.CoreCache.{CoreCacheView, tag_at}
 use Rattle.slice_core_cache.specs.Steps as caches
 use Rattle.slice_core_cache.specs.Tags.{tag_in}

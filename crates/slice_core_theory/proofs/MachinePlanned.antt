@@ -26,28 +26,28 @@ use Rattle.directory_table.specs.declared.row.DirEvent.TheVariants as dir_events
 use Rattle.directory_table.specs.declared.row.DirRow.{DirRow}
 use Rattle.directory_table.specs.declared.row.DirRow.TheVariants as dir_rows
 use Rattle.slice_answer.specs.declared.answer.Cell.TheVariants as cells
-use Rattle.slice_core_plan.specs.Calls.{core_of}
-use Rattle.slice_core_plan.specs.Plan.{ack_plan, asks, by_ack_row, by_data_row, by_directory_row, by_forwarded_row}
-use Rattle.slice_core_plan.specs.Plan.{by_home_row, data_by, data_plan, event_of_data, event_of_forwarded}
-use Rattle.slice_core_plan.specs.Plan.{event_of_request, fill_at, acknowledge_at, forwarded_by, forwarded_plan}
-use Rattle.slice_core_plan.specs.Plan.{home_plan, is_put_ack, plan_of, request_by, request_plan, requester_of}
-use Rattle.slice_core_plan.specs.Plan.{stands_at}
-use Rattle.slice_core_plan.specs.Sends.{cache_room, directory_room}
-use Rattle.slice_core_plan.specs.View.{View, channels_at, entry_at, cache_at, IsShaped}
+use Rattle.slice_core_spec.specs.Calls.{core_of}
+use Rattle.slice_core_spec.specs.Plan.{ack_plan, asks, by_ack_row, by_data_row, by_directory_row, by_forwarded_row}
+use Rattle.slice_core_spec.specs.Plan.{by_home_row, data_by, data_plan, event_of_data, event_of_forwarded}
+use Rattle.slice_core_spec.specs.Plan.{event_of_request, fill_at, acknowledge_at, forwarded_by, forwarded_plan}
+use Rattle.slice_core_spec.specs.Plan.{home_plan, is_put_ack, plan_of, request_by, request_plan, requester_of}
+use Rattle.slice_core_spec.specs.Plan.{stands_at}
+use Rattle.slice_core_spec.specs.Sends.{cache_room, directory_room}
+use Rattle.slice_core_spec.specs.View.{View, channels_at, entry_at, cache_at, IsShaped}
 use Rattle.slice_core_cache.specs.Copy.{no_copy}
 use Rattle.slice_core_cache.specs.CoreCache.{CoreCacheView, copy_of}
 use Rattle.slice_core_cache.specs.declared.copy.CacheCopy.{CacheCopy}
 use Rattle.slice_queues.specs.Line.{LineChannels, core_at, empty_line, no_messages}
-use Rattle.slice_queues_message.specs.declared.channel.Channel.{Channel}
-use Rattle.slice_queues_message.specs.declared.channel.Channel.TheVariants as channels
-use Rattle.slice_queues_message.specs.declared.message.DataMessage.{DataMessage}
-use Rattle.slice_queues_message.specs.declared.message.ForwardedMessage.{ForwardedMessage}
-use Rattle.slice_queues_message.specs.declared.message.RequestMessage.{RequestMessage}
+use Rattle.slice_queues.specs.declared.channel.Channel.{Channel}
+use Rattle.slice_queues.specs.declared.channel.Channel.TheVariants as channels
+use Rattle.slice_queues.specs.declared.message.DataMessage.{DataMessage}
+use Rattle.slice_queues.specs.declared.message.ForwardedMessage.{ForwardedMessage}
+use Rattle.slice_queues.specs.declared.message.RequestMessage.{RequestMessage}
 use Rattle.slice_answer.specs.declared.answer.Delivery.TheVariants as deliveries
 use Rattle.slice_answer.specs.declared.answer.Delivery.{Delivery}
-use Rattle.slice_core_plan.specs.Plan.{directory_move, forwarded_move}
-use Rattle.slice_core_plan.specs.declared.transition.Transition.TheVariants as transitions
-use Rattle.slice_core_plan.specs.declared.transition.Transition.{Transition}
+use Rattle.slice_core_spec.specs.Plan.{directory_move, forwarded_move}
+use Rattle.slice_core_spec.specs.declared.transition.Transition.TheVariants as transitions
+use Rattle.slice_core_spec.specs.declared.transition.Transition.{Transition}
 
 -- ---- the core
 

@@ -23,7 +23,7 @@ use Rattle.slice_core_theory.proofs.Performed.{IsAmong, Replying, Waiting, perfo
 use Rattle.slice_core_theory.proofs.Requests.{waits-on, word_line}
 use Rattle.slice_core_theory.specs.SmallMachine.{Asked}
 use Rattle.slice_core_theory.specs.Shows.{IsAccounted, IsNamed, Performs, Waits, request_of_target, small_machine_of}
-use Rattle.slice_core_plan.specs.View.{View, first_word, cache_at}
+use Rattle.slice_core_spec.specs.View.{View, first_word, cache_at}
 use Rattle.slice_core_theory.proofs.StandingFacts.{all-performable, each-tag_once}
 use Rattle.slice_log.specs.Log.{IsLegal, initially}
 use Rattle.target_list.specs.declared.target.Target.{Target}

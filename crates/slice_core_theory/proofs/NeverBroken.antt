@@ -7,15 +7,15 @@ use Rattle.slice_answer.specs.declared.answer.Delivered.{Delivered}
 use Rattle.slice_answer.specs.declared.answer.Delivered.TheVariants as delivered
 use Rattle.slice_core_theory.proofs.KeptByCalls.{located}
 use Rattle.slice_core_theory.specs.Coherent.{NothingIsBroken}
-use Rattle.slice_core_plan.specs.Calls.{AfterDeliverNext, AfterDelivery, AfterPlan, PartsView, local_in}
-use Rattle.slice_core_plan.specs.Plan.{plan_of, planned_in}
-use Rattle.slice_queues_message.specs.Pick.{channel_of, line_of}
-use Rattle.slice_queues_message.specs.declared.channel.Channel.{Channel}
-use Rattle.slice_queues_message.specs.declared.channel.Class.{Class}
-use Rattle.slice_queues_message.specs.declared.channel.Pick.{Pick}
+use Rattle.slice_core_spec.specs.Calls.{AfterDeliverNext, AfterDelivery, AfterPlan, PartsView, local_in}
+use Rattle.slice_core_spec.specs.Plan.{plan_of, planned_in}
+use Rattle.slice_queues.specs.Pick.{channel_of, line_of}
+use Rattle.slice_queues.specs.declared.channel.Channel.{Channel}
+use Rattle.slice_queues.specs.declared.channel.Class.{Class}
+use Rattle.slice_queues.specs.declared.channel.Pick.{Pick}
 use Rattle.slice_answer.specs.declared.answer.Delivery.TheVariants as deliveries
 use Rattle.slice_answer.specs.declared.answer.Delivery.{Delivery}
-use Rattle.slice_core_plan.specs.declared.transition.Transition.{Transition}
+use Rattle.slice_core_spec.specs.declared.transition.Transition.{Transition}
 
 module _ (old new : PartsView) (unbroken : NothingIsBroken old.view) (cell : Cell) where
   by_plan : (local : Local) (channel : Channel) (answer : Delivered) (plan : Delivery Transition) → plan ≢ deliveries.Broken cell

@@ -21,7 +21,7 @@ use Rattle.slice_core_theory.proofs.Frame.{with_copy_at}
 use Rattle.slice_core_theory.proofs.Turns.{IsQuiet, turn_stands}
 use Rattle.slice_core_theory.specs.Stands.{LineStands, PartStands, kind_of_request}
 use Rattle.slice_queues.specs.Line.{CoreChannels, LineChannels, core_at, with_core}
-use Rattle.slice_queues_message.specs.declared.message.RequestMessage.{RequestMessage}
+use Rattle.slice_queues.specs.declared.message.RequestMessage.{RequestMessage}
 
 -- The event is no message.
 abbrev pub IsOwn : CacheEvent → Type 0

@@ -33,10 +33,10 @@ use Rattle.slice_core_theory.specs.Coherent.{WaitsForMisses}
 use Rattle.slice_core_theory.specs.Newest.{HasNewest}
 use Rattle.slice_core_theory.specs.Stands.{IsReached, PartStands, Stands, queued_forward, queued_inv, queued_put_ack}
 use Rattle.slice_core_theory.specs.Whole.{IsWhole}
-use Rattle.slice_core_plan.specs.View.{View, IsQuiet, channels_at, entry_at, newest_block, no_cache, cache_at}
+use Rattle.slice_core_spec.specs.View.{View, IsQuiet, channels_at, entry_at, newest_block, no_cache, cache_at}
 use Rattle.slice_queues.proofs.LineLaws.{None-from_home, cores-from_IsEmptyLine}
 use Rattle.slice_queues.specs.Line.{CoreChannels, core_at, no_messages}
-use Rattle.slice_queues_message.specs.declared.channel.Channel.TheVariants as channels
+use Rattle.slice_queues.specs.declared.channel.Channel.TheVariants as channels
 use Rattle.writeback_buffer.specs.Buffer.{held_at as buffer_at}
 use Rattle.writeback_buffer.specs.declared.pending.Leaving.{Leaving}
 

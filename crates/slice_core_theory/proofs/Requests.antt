@@ -14,7 +14,7 @@ use Rattle.slice_log.specs.declared.entry.Entry.{Entry}
 use Rattle.slice_core_theory.proofs.Kept.{same_core}
 use Rattle.slice_core_theory.specs.SmallMachine.{Asked, entry_for}
 use Rattle.slice_core_theory.specs.Shows.{IsAccounted, Waits}
-use Rattle.slice_core_plan.specs.View.{View, first_word, no_cache, cache_at}
+use Rattle.slice_core_spec.specs.View.{View, first_word, no_cache, cache_at}
 use Rattle.slice_core_cache.specs.Targets.{IsPerformable}
 use Rattle.slice_core_theory.proofs.StandingFacts.{all-performable, targets-below}
 use Rattle.std.proofs.lemmas.Bool.{cases_lt}

@@ -24,9 +24,9 @@ use Rattle.slice_core_theory.proofs.Directory.{room_here}
 use Rattle.slice_core_theory.proofs.Served.{asked_here, row_here, within_here}
 use Rattle.slice_core_theory.specs.Stands.{LineStands, kind_of_data, kind_of_request, queued_forward, queued_inv}
 use Rattle.slice_core_theory.specs.Stands.{queued_put_ack}
-use Rattle.slice_core_plan.proofs.RoomLaws.{takes-from}
-use Rattle.slice_core_plan.specs.Plan.{by_directory_row, event_of_request}
-use Rattle.slice_core_plan.specs.Sends.{directory_room, takes, takes_invalidations}
+use Rattle.slice_core_spec.proofs.RoomLaws.{takes-from}
+use Rattle.slice_core_spec.specs.Plan.{by_directory_row, event_of_request}
+use Rattle.slice_core_spec.specs.Sends.{directory_room, takes, takes_invalidations}
 use Rattle.protocol_coherence.proofs.Promises.{reached_has_room, reached_has_rows}
 use Rattle.protocol_coherence.proofs.Steps.{reached_coherent}
 use Rattle.protocol_coherence.specs.Fit.{is_no_data, is_no_forward, is_no_request}
@@ -35,14 +35,14 @@ use Rattle.protocol_coherence.specs.LineSteps.{Reached, entry_of, is_asked_for}
 use Rattle.protocol_coherence.specs.Promise.{HasRoomAtService, has_room_for_put_ack, is_directory_entry}
 use Rattle.slice_core_cache.specs.declared.copy.CacheCopy.{CacheCopy}
 use Rattle.slice_queues.specs.Line.{LineChannels, core_at}
-use Rattle.slice_queues_message.specs.declared.channel.Channel.TheVariants as channels
-use Rattle.slice_queues_message.specs.declared.message.DataMessage.{DataMessage}
-use Rattle.slice_queues_message.specs.declared.message.DataMessage.TheVariants as data_messages
-use Rattle.slice_queues_message.specs.declared.message.Message.TheVariants as messages
-use Rattle.slice_queues_message.specs.declared.message.RequestMessage.{RequestMessage}
-use Rattle.slice_queues_message.specs.declared.message.RequestMessage.TheVariants as request_messages
+use Rattle.slice_queues.specs.declared.channel.Channel.TheVariants as channels
+use Rattle.slice_queues.specs.declared.message.DataMessage.{DataMessage}
+use Rattle.slice_queues.specs.declared.message.DataMessage.TheVariants as data_messages
+use Rattle.slice_queues.specs.declared.message.Message.TheVariants as messages
+use Rattle.slice_queues.specs.declared.message.RequestMessage.{RequestMessage}
+use Rattle.slice_queues.specs.declared.message.RequestMessage.TheVariants as request_messages
 use Rattle.slice_answer.specs.declared.answer.Delivery.TheVariants as deliveries
-use Rattle.slice_core_plan.specs.Plan.{directory_move}
+use Rattle.slice_core_spec.specs.Plan.{directory_move}
 
 -- ---- room
 

@@ -16,9 +16,9 @@ use Rattle.protocol_coherence.proofs.Each.{each_state, each_state-at, if_go, if_
 use Rattle.protocol_coherence.specs.Fit.{◌implies◌, is_counting}
 use Rattle.slice_core_cache.specs.Kept.{stands_in_array}
 use Rattle.slice_core_theory.specs.Blocks.{has_block}
-use Rattle.slice_core_plan.specs.Plan.{event_of_forwarded}
-use Rattle.slice_queues_message.specs.declared.message.ForwardedMessage.{ForwardedMessage}
-use Rattle.slice_queues_message.specs.declared.message.ForwardedMessage.TheVariants as forwarded_messages
+use Rattle.slice_core_spec.specs.Plan.{event_of_forwarded}
+use Rattle.slice_queues.specs.declared.message.ForwardedMessage.{ForwardedMessage}
+use Rattle.slice_queues.specs.declared.message.ForwardedMessage.TheVariants as forwarded_messages
 
 -- ---- a test of each row
 

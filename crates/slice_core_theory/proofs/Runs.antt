@@ -3,7 +3,7 @@ use Rattle.std.proofs.Common.{ℕ, List, [], ◌∷◌, ◌++◌, length, inl, i
 use Rattle.slice_core_theory.specs.SmallMachine.{Can, IsSame, SmallMachine, Run, Step, accept, after, entry_for, hand}
 use Rattle.slice_core_theory.specs.SmallMachine.{perform}
 use Rattle.slice_core_theory.specs.Shows.{Leads, small_machine_of}
-use Rattle.slice_core_plan.specs.View.{View}
+use Rattle.slice_core_spec.specs.View.{View}
 use Rattle.slice_log.specs.Log.{initially}
 use Rattle.slice_log.specs.declared.entry.Entry.{Entry}
 

@@ -26,9 +26,9 @@ use Rattle.slice_core_theory.proofs.Parts.{request_stands, with_data, with_forwa
 use Rattle.slice_core_theory.proofs.Places.{PartsStand, acks-with_core, change-twice, parts_as, parts_sent}
 use Rattle.slice_core_theory.proofs.Places.{with_core-length, with_part_at}
 use Rattle.slice_core_theory.specs.Stands.{EntryStands, PartStands, kind_of_request}
-use Rattle.slice_core_plan.specs.Plan.{by_directory_row, event_of_request, request_by}
-use Rattle.slice_core_plan.specs.Sends.{directory_room, directory_sent}
-use Rattle.slice_core_plan.specs.View.{View, channels_at, entry_at}
+use Rattle.slice_core_spec.specs.Plan.{by_directory_row, event_of_request, request_by}
+use Rattle.slice_core_spec.specs.Sends.{directory_room, directory_sent}
+use Rattle.slice_core_spec.specs.View.{View, channels_at, entry_at}
 use Rattle.protocol_coherence.proofs.Frame.{at_place}
 use Rattle.protocol_coherence.specs.Fit.{is_counting, is_get_m, is_get_s, is_no_forward, is_put_m, is_put_s}
 use Rattle.protocol_coherence.specs.Line.{Forward, Line, Part, fwd_get_m, fwd_get_s}
@@ -40,18 +40,18 @@ use Rattle.slice_core_cache.specs.declared.copy.CacheCopy.{CacheCopy}
 use Rattle.slice_queues.proofs.InvalidateLaws.{core_at-after_invalidating}
 use Rattle.slice_queues.specs.Line.{CoreChannels, LineChannels, after_invalidating, after_send, after_take, core_at}
 use Rattle.slice_queues.specs.Line.{no_messages, with_invalidation}
-use Rattle.slice_queues_message.specs.declared.channel.Channel.TheVariants as channels
-use Rattle.slice_queues_message.specs.declared.message.DataMessage.{DataMessage}
-use Rattle.slice_queues_message.specs.declared.message.DataMessage.TheVariants as data_messages
-use Rattle.slice_queues_message.specs.declared.message.ForwardedMessage.TheVariants as forwarded_messages
-use Rattle.slice_queues_message.specs.declared.message.Message.TheVariants as messages
-use Rattle.slice_queues_message.specs.declared.message.RequestMessage.{RequestMessage}
-use Rattle.slice_queues_message.specs.declared.message.RequestMessage.TheVariants as request_messages
+use Rattle.slice_queues.specs.declared.channel.Channel.TheVariants as channels
+use Rattle.slice_queues.specs.declared.message.DataMessage.{DataMessage}
+use Rattle.slice_queues.specs.declared.message.DataMessage.TheVariants as data_messages
+use Rattle.slice_queues.specs.declared.message.ForwardedMessage.TheVariants as forwarded_messages
+use Rattle.slice_queues.specs.declared.message.Message.TheVariants as messages
+use Rattle.slice_queues.specs.declared.message.RequestMessage.{RequestMessage}
+use Rattle.slice_queues.specs.declared.message.RequestMessage.TheVariants as request_messages
 use Rattle.slice_answer.specs.declared.answer.Delivery.TheVariants as deliveries
 use Rattle.slice_answer.specs.declared.answer.Delivery.{Delivery}
-use Rattle.slice_core_plan.specs.Plan.{directory_move}
-use Rattle.slice_core_plan.specs.declared.transition.Transition.TheVariants as transitions
-use Rattle.slice_core_plan.specs.declared.transition.Transition.{Transition}
+use Rattle.slice_core_spec.specs.Plan.{directory_move}
+use Rattle.slice_core_spec.specs.declared.transition.Transition.TheVariants as transitions
+use Rattle.slice_core_spec.specs.declared.transition.Transition.{Transition}
 
 -- ---- the row that was planned
 

@@ -28,11 +28,11 @@ use Rattle.slice_core_theory.proofs.Rows.{IsTaken, ack-taken}
 use Rattle.slice_core_theory.proofs.SettlingLine.{count_stands, count_turn, data_event, data_row-taken, fill_stands}
 use Rattle.slice_core_theory.proofs.SettlingLine.{fill_turn, settles}
 use Rattle.slice_core_theory.specs.Stands.{AreReached, LineStands, Stands, copies_at, named_by}
-use Rattle.slice_core_plan.specs.Calls.{filled_by}
-use Rattle.slice_core_plan.specs.Plan.{acknowledge_at, asks, by_ack_row, by_data_row, data_by, event_of_data, fill_at}
-use Rattle.slice_core_plan.specs.Plan.{plan_of, stands_at}
-use Rattle.slice_core_plan.specs.Steps.{after_settling, asked_by}
-use Rattle.slice_core_plan.specs.View.{View, IsShaped, channels_at, entry_at, first_word, cache_at}
+use Rattle.slice_core_spec.specs.Calls.{filled_by}
+use Rattle.slice_core_spec.specs.Plan.{acknowledge_at, asks, by_ack_row, by_data_row, data_by, event_of_data, fill_at}
+use Rattle.slice_core_spec.specs.Plan.{plan_of, stands_at}
+use Rattle.slice_core_spec.specs.Steps.{after_settling, asked_by}
+use Rattle.slice_core_spec.specs.View.{View, IsShaped, channels_at, entry_at, first_word, cache_at}
 use Rattle.protocol_coherence.proofs.Each.{each_state, each_state-at, not-at}
 use Rattle.protocol_coherence.specs.Line.{Line}
 use Rattle.protocol_coherence.specs.LineSteps.{Reached, after, after_ack, further}
@@ -46,18 +46,18 @@ use Rattle.slice_core_cache.specs.CoreCache.{CoreCacheView, array_copy, copy_of,
 use Rattle.slice_core_cache.specs.Steps.{copy_after_ack, after_change, after_settle, copy_after_settle, settled_copy}
 use Rattle.slice_core_cache.specs.declared.copy.CacheCopy.{CacheCopy}
 use Rattle.slice_queues.specs.Line.{after_take, core_at}
-use Rattle.slice_queues_message.specs.declared.channel.Channel.TheVariants as channels
-use Rattle.slice_queues_message.specs.declared.channel.Channel.{Channel}
-use Rattle.slice_queues_message.specs.declared.message.DataMessage.TheVariants as data_messages
-use Rattle.slice_queues_message.specs.declared.message.DataMessage.{DataMessage}
+use Rattle.slice_queues.specs.declared.channel.Channel.TheVariants as channels
+use Rattle.slice_queues.specs.declared.channel.Channel.{Channel}
+use Rattle.slice_queues.specs.declared.message.DataMessage.TheVariants as data_messages
+use Rattle.slice_queues.specs.declared.message.DataMessage.{DataMessage}
 use Rattle.target_list.specs.Target.{is_load}
 use Rattle.writeback_buffer.specs.Buffer.{held_at as buffer_at}
 use Rattle.writeback_buffer.specs.declared.pending.Leaving.{Leaving}
 use Rattle.slice_answer.specs.declared.answer.Delivery.TheVariants as deliveries
 use Rattle.slice_answer.specs.declared.answer.Delivery.{Delivery}
-use Rattle.slice_core_plan.specs.Plan.{ack_move, fill_move}
-use Rattle.slice_core_plan.specs.declared.transition.Transition.TheVariants as transitions
-use Rattle.slice_core_plan.specs.declared.transition.Transition.{Transition}
+use Rattle.slice_core_spec.specs.Plan.{ack_move, fill_move}
+use Rattle.slice_core_spec.specs.declared.transition.Transition.TheVariants as transitions
+use Rattle.slice_core_spec.specs.declared.transition.Transition.{Transition}
 
 -- ---- the plan
 

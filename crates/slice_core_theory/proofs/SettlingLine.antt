@@ -33,13 +33,13 @@ use Rattle.slice_core_theory.proofs.Places.{acks_turned, parts_turned, with_part
 use Rattle.slice_core_theory.proofs.Rows.{IsTaken, ack_row-same, ack-taken, counting-waits, data-taken, only-taken}
 use Rattle.slice_core_theory.proofs.Turns.{turn_stands}
 use Rattle.slice_core_theory.specs.Stands.{LineStands, PartStands, kind_of_data, named_by, queue_of}
-use Rattle.slice_core_plan.specs.Plan.{asks}
-use Rattle.slice_core_plan.specs.Steps.{asked_by}
+use Rattle.slice_core_spec.specs.Plan.{asks}
+use Rattle.slice_core_spec.specs.Steps.{asked_by}
 use Rattle.slice_queues.specs.Line.{CoreChannels, LineChannels, after_take, core_at, no_messages, with_core}
-use Rattle.slice_queues_message.specs.declared.channel.Channel.TheVariants as channels
-use Rattle.slice_queues_message.specs.declared.message.DataMessage.{DataMessage}
-use Rattle.slice_queues_message.specs.declared.message.DataMessage.TheVariants as data_messages
-use Rattle.slice_queues_message.specs.declared.message.RequestMessage.TheVariants as request_messages
+use Rattle.slice_queues.specs.declared.channel.Channel.TheVariants as channels
+use Rattle.slice_queues.specs.declared.message.DataMessage.{DataMessage}
+use Rattle.slice_queues.specs.declared.message.DataMessage.TheVariants as data_messages
+use Rattle.slice_queues.specs.declared.message.RequestMessage.TheVariants as request_messages
 use Rattle.target_list.specs.Target.{behind_loads}
 use Rattle.target_list.specs.declared.target.Target.{Target}
 

@@ -16,12 +16,12 @@ use Rattle.directory_table.specs.declared.state.DirState.{DirState}
 use Rattle.mshr_file.specs.declared.registers.Register.{Register}
 use Rattle.mshr_file.specs.Miss.{has_miss, targets_of, AddsTarget, TakesTargets}
 use Rattle.slice_core_theory.proofs.Accesses.{HasPlaceFor, HasVictimFor, sends_for}
-use Rattle.slice_core_plan.specs.Within.{HasCopy}
-use Rattle.slice_core_plan.specs.Calls.{filled_by}
-use Rattle.slice_core_plan.specs.Plan.{plan_of}
-use Rattle.slice_core_plan.specs.Steps.{after_directory, after_evict, after_forwarded, after_hand, after_hit}
-use Rattle.slice_core_plan.specs.Steps.{after_home, after_join, after_open, after_settling}
-use Rattle.slice_core_plan.specs.View.{View, channels_at, cache_at}
+use Rattle.slice_core_spec.specs.Within.{HasCopy}
+use Rattle.slice_core_spec.specs.Calls.{filled_by}
+use Rattle.slice_core_spec.specs.Plan.{plan_of}
+use Rattle.slice_core_spec.specs.Steps.{after_directory, after_evict, after_forwarded, after_hand, after_hit}
+use Rattle.slice_core_spec.specs.Steps.{after_home, after_join, after_open, after_settling}
+use Rattle.slice_core_spec.specs.View.{View, channels_at, cache_at}
 use Rattle.slice_core_cache.specs.Access.{CanLeave, event_of}
 use Rattle.slice_core_cache.specs.Perform.{performed_in}
 use Rattle.slice_core_cache.specs.CoreCache.{array_copy, state_of}
@@ -30,9 +30,9 @@ use Rattle.slice_core_cache.specs.declared.access.Ask.{Ask}
 use Rattle.slice_core_cache.specs.declared.access.Placement.{Placement}
 use Rattle.slice_core_cache.specs.declared.copy.CacheCopy.{CacheCopy}
 use Rattle.slice_queues.specs.Line.{core_at}
-use Rattle.slice_queues_message.specs.declared.channel.Channel.TheVariants as channels
+use Rattle.slice_queues.specs.declared.channel.Channel.TheVariants as channels
 use Rattle.target_list.specs.declared.target.Target.{Target}
-use Rattle.slice_core_plan.specs.Plan.{ack_move, directory_move, fill_move, forwarded_move, home_move}
+use Rattle.slice_core_spec.specs.Plan.{ack_move, directory_move, fill_move, forwarded_move, home_move}
 
 -- Each access, eviction and reply keeps the fact.
 pub record KeepsAccesses (Whole Fact : View → Type 0) : Type 0 where

@@ -39,12 +39,12 @@ use Rattle.slice_core_theory.proofs.Served.{row_here}
 use Rattle.slice_core_theory.specs.Coherent.{NothingIsBroken, WaitsInArray}
 use Rattle.slice_core_theory.specs.Stands.{AreReached, PartStands, Stands, copies_at, kind_of_data, named_by}
 use Rattle.slice_core_theory.specs.Whole.{IsWhole}
-use Rattle.slice_core_plan.proofs.RoomLaws.{takes-from}
-use Rattle.slice_core_plan.specs.Plan.{acknowledge_at, asks, by_ack_row, by_data_row, by_forwarded_row, by_home_row}
-use Rattle.slice_core_plan.specs.Plan.{data_by, event_of_data, event_of_forwarded, fill_at, forwarded_by, is_put_ack}
-use Rattle.slice_core_plan.specs.Plan.{plan_of, stands_at, request_by, requester_of}
-use Rattle.slice_core_plan.specs.Sends.{cache_room, takes}
-use Rattle.slice_core_plan.specs.View.{View, IsShaped, channels_at, entry_at, cache_at}
+use Rattle.slice_core_spec.proofs.RoomLaws.{takes-from}
+use Rattle.slice_core_spec.specs.Plan.{acknowledge_at, asks, by_ack_row, by_data_row, by_forwarded_row, by_home_row}
+use Rattle.slice_core_spec.specs.Plan.{data_by, event_of_data, event_of_forwarded, fill_at, forwarded_by, is_put_ack}
+use Rattle.slice_core_spec.specs.Plan.{plan_of, stands_at, request_by, requester_of}
+use Rattle.slice_core_spec.specs.Sends.{cache_room, takes}
+use Rattle.slice_core_spec.specs.View.{View, IsShaped, channels_at, entry_at, cache_at}
 use Rattle.protocol_coherence.proofs.Frame.{at_place}
 use Rattle.protocol_coherence.proofs.Promises.{reached_has_room, reached_has_rows, reached_nothing_early}
 use Rattle.protocol_coherence.specs.Fit.{is_counting, is_no_data, is_no_request, is_only_data}
@@ -55,17 +55,17 @@ use Rattle.slice_core_cache.specs.Copy.{found_in}
 use Rattle.slice_core_cache.specs.CoreCache.{copy_of}
 use Rattle.slice_core_cache.specs.declared.copy.CacheCopy.{CacheCopy}
 use Rattle.slice_queues.specs.Line.{CoreChannels, LineChannels, core_at, no_messages}
-use Rattle.slice_queues_message.specs.declared.channel.Channel.TheVariants as channels
-use Rattle.slice_queues_message.specs.declared.channel.Channel.{Channel}
-use Rattle.slice_queues_message.specs.declared.message.DataMessage.TheVariants as data_messages
-use Rattle.slice_queues_message.specs.declared.message.DataMessage.{DataMessage}
-use Rattle.slice_queues_message.specs.declared.message.ForwardedMessage.TheVariants as forwarded_messages
-use Rattle.slice_queues_message.specs.declared.message.ForwardedMessage.{ForwardedMessage}
-use Rattle.slice_queues_message.specs.declared.message.RequestMessage.{RequestMessage}
+use Rattle.slice_queues.specs.declared.channel.Channel.TheVariants as channels
+use Rattle.slice_queues.specs.declared.channel.Channel.{Channel}
+use Rattle.slice_queues.specs.declared.message.DataMessage.TheVariants as data_messages
+use Rattle.slice_queues.specs.declared.message.DataMessage.{DataMessage}
+use Rattle.slice_queues.specs.declared.message.ForwardedMessage.TheVariants as forwarded_messages
+use Rattle.slice_queues.specs.declared.message.ForwardedMessage.{ForwardedMessage}
+use Rattle.slice_queues.specs.declared.message.RequestMessage.{RequestMessage}
 use Rattle.writeback_buffer.specs.Buffer.{held_at as buffer_at}
 use Rattle.writeback_buffer.specs.declared.pending.Leaving.{Leaving}
 use Rattle.slice_answer.specs.declared.answer.Delivery.TheVariants as deliveries
-use Rattle.slice_core_plan.specs.Plan.{ack_move, fill_move, forwarded_move}
+use Rattle.slice_core_spec.specs.Plan.{ack_move, fill_move, forwarded_move}
 
 -- ---- the slice
 

@@ -18,7 +18,7 @@ use Rattle.slice_core_cache.specs.declared.access.Placement.TheVariants as place
 use Rattle.slice_core_cache.specs.declared.copy.CacheCopy.{CacheCopy}
 use Rattle.slice_core_theory.proofs.Accesses.{HasPlaceFor, HasVictim, HasVictimFor}
 use Rattle.slice_core_theory.proofs.Evictions.{passing}
-use Rattle.slice_core_plan.specs.View.{View, cache_at}
+use Rattle.slice_core_spec.specs.View.{View, cache_at}
 
 -- The line may leave, and shares the other's set.
 record IsChosen (cache : CoreCacheView) (local victim : Local) : Type 0 where

@@ -10,13 +10,13 @@ use Rattle.protocol_coherence.specs.Line.{Line}
 use Rattle.protocol_coherence.specs.Values.{Blocks, ReachedWith}
 use Rattle.slice_core_cache.specs.declared.copy.CacheCopy.{CacheCopy}
 use Rattle.slice_core_theory.specs.Stands.{LineStands, copies_at}
-use Rattle.slice_core_plan.specs.Steps.{block_in}
-use Rattle.slice_core_plan.specs.View.{View, channels_at, entry_at, first_word}
+use Rattle.slice_core_spec.specs.Steps.{block_in}
+use Rattle.slice_core_spec.specs.View.{View, channels_at, entry_at, first_word}
 use Rattle.slice_log.specs.Log.{initially, value}
 use Rattle.slice_log.specs.declared.entry.Entry.{Entry}
 use Rattle.slice_queues.specs.Line.{CoreChannels, LineChannels, core_at}
-use Rattle.slice_queues_message.specs.declared.message.DataMessage.{DataMessage}
-use Rattle.slice_queues_message.specs.declared.message.DataMessage.TheVariants as data_messages
+use Rattle.slice_queues.specs.declared.message.DataMessage.{DataMessage}
+use Rattle.slice_queues.specs.declared.message.DataMessage.TheVariants as data_messages
 
 -- ---- one line
 

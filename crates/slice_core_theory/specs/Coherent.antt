@@ -6,11 +6,11 @@ use Rattle.cache_array.specs.Array.{held_at as array_at}
 use Rattle.cache_table.specs.CopyState.{is_readable, is_waiting, is_writer}
 use Rattle.mshr_file.specs.Miss.{has_miss}
 use Rattle.slice_answer.specs.declared.answer.Cell.{Cell}
-use Rattle.slice_core_plan.specs.Plan.{plan_of}
-use Rattle.slice_core_plan.specs.View.{View, channels_at, cache_at}
+use Rattle.slice_core_spec.specs.Plan.{plan_of}
+use Rattle.slice_core_spec.specs.View.{View, channels_at, cache_at}
 use Rattle.slice_core_cache.specs.CoreCache.{state_of}
 use Rattle.slice_queues.specs.Line.{HasChannel, messages_at, room_of}
-use Rattle.slice_queues_message.specs.declared.channel.Channel.{Channel}
+use Rattle.slice_queues.specs.declared.channel.Channel.{Channel}
 use Rattle.slice_answer.specs.declared.answer.Delivery.TheVariants as deliveries
 
 -- Where one core may write a line, no other core may read it.

@@ -8,12 +8,12 @@ use Rattle.directory_table.specs.Law.{is_named}
 use Rattle.protocol_coherence.specs.Values.{is_at_home}
 use Rattle.slice_core_cache.specs.CoreCache.{copy_of, state_of}
 use Rattle.slice_core_theory.specs.Blocks.{AreReachedWith, IsNewest}
-use Rattle.slice_core_plan.specs.View.{View, channels_at, entry_at, cache_at}
+use Rattle.slice_core_spec.specs.View.{View, channels_at, entry_at, cache_at}
 use Rattle.slice_log.specs.Log.{IsLegal, initially}
 use Rattle.slice_queues.specs.Line.{core_at}
-use Rattle.slice_queues_message.specs.declared.message.DataMessage.{DataMessage}
-use Rattle.slice_queues_message.specs.declared.message.DataMessage.TheVariants as data_messages
-use Rattle.slice_queues_message.specs.declared.message.RequestMessage.TheVariants as request_messages
+use Rattle.slice_queues.specs.declared.message.DataMessage.{DataMessage}
+use Rattle.slice_queues.specs.declared.message.DataMessage.TheVariants as data_messages
+use Rattle.slice_queues.specs.declared.message.RequestMessage.TheVariants as request_messages
 
 -- the block that data carry
 abbrev pub carried_block : DataMessage → Block

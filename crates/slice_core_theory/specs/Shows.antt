@@ -11,7 +11,7 @@ use Rattle.slice_answer.specs.declared.answer.Refused.{Refused}
 use Rattle.slice_core_cache.specs.CoreCache.{tag_at}
 use Rattle.slice_core_cache.specs.declared.tags.TagState.TheVariants as tag_states
 use Rattle.slice_core_theory.specs.SmallMachine.{Asked, SmallMachine, Run, Step, accept, hand, perform}
-use Rattle.slice_core_plan.specs.View.{View, first_word, cache_at}
+use Rattle.slice_core_spec.specs.View.{View, first_word, cache_at}
 use Rattle.slice_core_theory.specs.Standing.{IsAccount}
 use Rattle.slice_log.specs.Log.{initially}
 use Rattle.slice_log.specs.declared.entry.Numbered.{Numbered}

@@ -11,14 +11,14 @@ use Rattle.protocol_coherence.specs.Line.{shared_data, Line, Part, Request, get_
 use Rattle.protocol_coherence.specs.LineSteps.{Reached, stands_ack}
 use Rattle.slice_core_cache.specs.CoreCache.{copy_of}
 use Rattle.slice_core_cache.specs.declared.copy.CacheCopy.{CacheCopy}
-use Rattle.slice_core_plan.specs.View.{View, channels_at, entry_at, cache_at}
+use Rattle.slice_core_spec.specs.View.{View, channels_at, entry_at, cache_at}
 use Rattle.slice_queues.specs.Line.{CoreChannels, LineChannels, core_at}
-use Rattle.slice_queues_message.specs.declared.message.DataMessage.{DataMessage}
-use Rattle.slice_queues_message.specs.declared.message.DataMessage.TheVariants as data_messages
-use Rattle.slice_queues_message.specs.declared.message.ForwardedMessage.{ForwardedMessage}
-use Rattle.slice_queues_message.specs.declared.message.ForwardedMessage.TheVariants as forwarded_messages
-use Rattle.slice_queues_message.specs.declared.message.RequestMessage.{RequestMessage}
-use Rattle.slice_queues_message.specs.declared.message.RequestMessage.TheVariants as request_messages
+use Rattle.slice_queues.specs.declared.message.DataMessage.{DataMessage}
+use Rattle.slice_queues.specs.declared.message.DataMessage.TheVariants as data_messages
+use Rattle.slice_queues.specs.declared.message.ForwardedMessage.{ForwardedMessage}
+use Rattle.slice_queues.specs.declared.message.ForwardedMessage.TheVariants as forwarded_messages
+use Rattle.slice_queues.specs.declared.message.RequestMessage.{RequestMessage}
+use Rattle.slice_queues.specs.declared.message.RequestMessage.TheVariants as request_messages
 
 -- ---- channels
 

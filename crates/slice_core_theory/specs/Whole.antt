@@ -7,7 +7,7 @@ use Rattle.cache_array.specs.Array.{held_at as array_at}
 use Rattle.mshr_file.specs.Miss.{targets_of}
 use Rattle.slice_core_cache.specs.Kept.{IsKept}
 use Rattle.slice_core_cache.specs.Targets.{IsPerformable}
-use Rattle.slice_core_plan.specs.View.{View, IsShaped, cache_at}
+use Rattle.slice_core_spec.specs.View.{View, IsShaped, cache_at}
 
 -- Its shape; that it has no more cores than a set can have; that each core's copies stand where they belong; and that
 -- the arrays hold lines of the slice alone.

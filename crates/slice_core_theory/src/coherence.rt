@@ -1,7 +1,7 @@
 //! Why a slice is coherent: each of its lines is a line of the protocol's machine.
 //!
 //! `protocol_coherence` proves of one line under the two tables what any run of its machine reaches.
-//! `slice_core_plan` says what each call of a slice leaves of its value. This crate ties them: `specs/Stands.antt` says
+//! `slice_core_spec` says what each call of a slice leaves of its value. This crate ties them: `specs/Stands.antt` says
 //! when a line of a slice is a line of the machine, part by part, and `AreReached` that each line of the slice is one
 //! that the machine reaches; `specs/Blocks.antt` says the same of the blocks, where the newest block has what the log
 //! gives. A new slice is so, and each call keeps it, for each is some steps of the machine on one line, or on two where
@@ -32,12 +32,12 @@ ghost use Rattle.slice_core_theory.specs.Coherent.{WaitsForMisses};
 ghost use Rattle.slice_core_theory.specs.Newest.{HasNewest, IsFaithful};
 ghost use Rattle.slice_core_theory.specs.Stands.{AreReached};
 ghost use Rattle.slice_core_theory.specs.Whole.{IsAddressed, IsWhole};
-ghost use Rattle.slice_core_plan.specs.Calls.{AfterDeliverNext, AfterDelivery, AfterEvict, AfterHand, AfterIssue};
-ghost use Rattle.slice_core_plan.specs.Calls.{IsNew, PartsView};
-ghost use Rattle.slice_core_plan.specs.View.{IsQuiet, View, newest_block};
+ghost use Rattle.slice_core_spec.specs.Calls.{AfterDeliverNext, AfterDelivery, AfterEvict, AfterHand, AfterIssue};
+ghost use Rattle.slice_core_spec.specs.Calls.{IsNew, PartsView};
+ghost use Rattle.slice_core_spec.specs.View.{IsQuiet, View, newest_block};
 ghost use Rattle.slice_log.specs.declared.entry.Numbered.{Numbered};
-ghost use Rattle.slice_queues_message.specs.declared.channel.Class.{Class};
-ghost use Rattle.slice_queues_message.specs.declared.channel.Pick.{Pick};
+ghost use Rattle.slice_queues.specs.declared.channel.Class.{Class};
+ghost use Rattle.slice_queues.specs.declared.channel.Pick.{Pick};
 
 /// In a slice in which nothing was asked for yet, each line is one that the machine reaches, blocks and all, and the
 /// log is legal.

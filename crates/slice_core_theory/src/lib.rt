@@ -1,6 +1,6 @@
 //! Why a slice is right: what is so of its value, and stays so whatever call is made.
 //!
-//! `slice_core_plan` says what each call leaves of a slice's value; three theories say what that keeps.
+//! `slice_core_spec` says what each call leaves of a slice's value; three theories say what that keeps.
 //!
 //! - `standing`: each request that a core had accepted stands in exactly one place (specs/Standing.antt).
 //! - `coherence`: each line is a line of the protocol's machine (specs/Stands.antt), so what `protocol_coherence` proves

@@ -22,13 +22,13 @@ ghost use Rattle.slice_answer.specs.declared.answer.Refused.{Refused};
 ghost use Rattle.slice_core_theory.specs.Whole.{IsWhole};
 ghost use Rattle.slice_core_theory.specs.SmallMachine.{IsSame, Step, new_small_machine};
 ghost use Rattle.slice_core_theory.specs.Shows.{IsAccounted, Leads, Performs, hand_steps, issue_steps, next_of, small_machine_of};
-ghost use Rattle.slice_core_plan.specs.Calls.{AfterDeliverNext, AfterDelivery, AfterEvict, AfterHand, AfterIssue};
-ghost use Rattle.slice_core_plan.specs.Calls.{IsNew, PartsView};
-ghost use Rattle.slice_core_plan.specs.View.{View};
+ghost use Rattle.slice_core_spec.specs.Calls.{AfterDeliverNext, AfterDelivery, AfterEvict, AfterHand, AfterIssue};
+ghost use Rattle.slice_core_spec.specs.Calls.{IsNew, PartsView};
+ghost use Rattle.slice_core_spec.specs.View.{View};
 ghost use Rattle.slice_log.specs.Log.{IsLegal, initially};
 ghost use Rattle.slice_log.specs.declared.entry.Numbered.{Numbered};
-ghost use Rattle.slice_queues_message.specs.declared.channel.Class.{Class};
-ghost use Rattle.slice_queues_message.specs.declared.channel.Pick.{Pick};
+ghost use Rattle.slice_queues.specs.declared.channel.Class.{Class};
+ghost use Rattle.slice_queues.specs.declared.channel.Pick.{Pick};
 
 /// A slice in which nothing was asked for yet shows a machine in which nothing was.
 pub fn new_slice_shows_nothing()

@@ -5,9 +5,9 @@ use Rattle.address_map.specs.declared.address.Local.{Local}
 use Rattle.slice_json.specs.Line.{text_of_mail, text_of_place, text_with}
 use Rattle.slice_json.specs.Message.{list_of_messages}
 use Rattle.slice_core.specs.Facts.{AreWaitingAt, ShowsLine}
-use Rattle.slice_core_plan.specs.View.{View}
-use Rattle.slice_core_steps.specs.declared.line_view.LineView.{LineView}
-use Rattle.slice_queues_message.specs.declared.channel.Channel.{Channel}
+use Rattle.slice_core_spec.specs.View.{View}
+use Rattle.slice_core_exec.specs.declared.line_view.LineView.{LineView}
+use Rattle.slice_queues.specs.declared.channel.Channel.{Channel}
 
 -- a line of another slice is null
 pub no_line : (v : View) (line : LineAddr) (local : Option Local) (shown : Option LineView) → ShowsLine v local shown

@@ -11,7 +11,7 @@ use Rattle.slice_json.specs.Access.{list_of_targets}
 use Rattle.slice_json.specs.Json.{text_of_block}
 use Rattle.slice_core.specs.Facts.{copy_at, targets_at}
 use Rattle.slice_core_cache.specs.declared.copy.CacheCopy.{CacheCopy}
-use Rattle.slice_core_plan.specs.View.{View}
+use Rattle.slice_core_spec.specs.View.{View}
 use Rattle.target_list.specs.declared.target.Target.{Target}
 
 -- a copy in this state has a block: not before its data come, nor once it was given up to another core

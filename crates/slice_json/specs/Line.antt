@@ -9,7 +9,7 @@ use Rattle.directory_table.specs.declared.state.DirEntry.{DirEntry}
 use Rattle.directory_table.specs.declared.state.DirState.{DirState}
 use Rattle.slice_json.specs.Json.{list_of_cores, list_of_values}
 use Rattle.slice_json.specs.Message.{list_of_messages}
-use Rattle.slice_core_plan.specs.View.{View, channels_at, entry_at}
+use Rattle.slice_core_spec.specs.View.{View, channels_at, entry_at}
 use Rattle.slice_queues.specs.Waiting.{line_waiting}
 
 abbrev pub text_of_entry : LineAddr → DirState → Option CoreId → List ℕ

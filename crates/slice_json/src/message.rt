@@ -12,7 +12,7 @@ use mshr_file::MissFile;
 use slice_core::{
     DataMessage, ForwardedMessage, LineWaiting, Message, Plan, RequestMessage, SliceState,
 };
-use slice_queues_message::Channel;
+use slice_queues::Channel;
 use std::fmt;
 use std::fmt::Write;
 

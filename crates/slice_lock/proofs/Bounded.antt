@@ -7,7 +7,7 @@ use Rattle.receipt_ledger.proofs.Tied.{same-part}
 use Rattle.slice_core.specs.Facts.{IsSameSlice}
 use Rattle.slice_core.specs.Shape.{Shape}
 use Rattle.slice_core_cache.specs.CoreCache.{CoreCacheView}
-use Rattle.slice_core_plan.specs.Calls.{IsNew, PartsView}
+use Rattle.slice_core_spec.specs.Calls.{IsNew, PartsView}
 use Rattle.slice_lock.specs.Booked.{AreBounded}
 
 pub new-bounded : (c : Config) (bound : Bound) (slice : SliceId) (p : PartsView) → IsNew c bound slice p

@@ -6,7 +6,7 @@ use Rattle.receipt_ledger.specs.Port.{PortView}
 use Rattle.receipt_ledger.specs.Settled.{IsSettled}
 use Rattle.address_map.specs.Place.{counters_of, init_of}
 use Rattle.slice_log.specs.Log.{IsLegal, initially, value}
-use Rattle.slice_core_plan.specs.View.{View}
+use Rattle.slice_core_spec.specs.View.{View}
 use Rattle.slice_lock.specs.Settled.{AreSettled}
 
 pub settled : (c : Config) (number : ℕ) (v : View) (ports : List PortView) (values : List ℕ)

@@ -7,8 +7,8 @@ use Rattle.receipt_ledger.specs.Booked.{IsTied}
 use Rattle.receipt_ledger.specs.Slice.{IsSliceOf}
 use Rattle.receipt_ledger.specs.Totals.{Totals}
 use Rattle.slice_core.specs.Facts.{Holds}
-use Rattle.slice_core_plan.specs.Calls.{PartsView}
-use Rattle.slice_core_plan.specs.View.{View, cache_at}
+use Rattle.slice_core_spec.specs.Calls.{PartsView}
+use Rattle.slice_core_spec.specs.View.{View, cache_at}
 
 -- a slice's state, and the totals of its book
 pub record BookedView : Type 0 where

@@ -8,7 +8,7 @@ use Rattle.receipt_ledger.specs.Settled.{accepted_in}
 use Rattle.address_map.specs.Place.{counters_of, init_of}
 use Rattle.slice_log.specs.Log.{IsLegal, IsOrdered, initially, named, value}
 use Rattle.slice_log.specs.declared.entry.Entry.{Entry}
-use Rattle.slice_core_plan.specs.View.{View, IsQuiet}
+use Rattle.slice_core_spec.specs.View.{View, IsQuiet}
 use Rattle.slice_lock.specs.declared.slice.Unsettled.{Unsettled}
 use Rattle.slice_lock.specs.declared.slice.Unsettled.TheVariants as unsettled_kinds
 

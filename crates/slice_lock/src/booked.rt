@@ -5,8 +5,8 @@ ghost use Rattle.receipt_ledger.specs.History.{AreHeld};
 ghost use Rattle.receipt_ledger.specs.Port.{with_seen};
 ghost use Rattle.receipt_ledger.specs.Settled.{IsSettled};
 ghost use Rattle.slice_core.specs.Facts.{IsNotBroken, IsNotBrokenNext};
-ghost use Rattle.slice_core_plan.specs.Calls.{AfterDeliverNext, AfterDelivery, AfterEvict};
-ghost use Rattle.slice_core_plan.specs.View.{IsQuiet};
+ghost use Rattle.slice_core_spec.specs.Calls.{AfterDeliverNext, AfterDelivery, AfterEvict};
+ghost use Rattle.slice_core_spec.specs.View.{IsQuiet};
 ghost use Rattle.slice_lock.specs.Booked.{IsShown};
 ghost use Rattle.slice_lock.specs.Settled.{AreSettled, IsUnsettledBy};
 
@@ -17,7 +17,7 @@ use mshr_file::MissFile;
 use receipt_ledger::{Book, LearnError, Lends, Port, Receipt, SliceNames};
 use slice_answer::{Delivered, DeliveredNext, Evicted, Issue, Refused};
 use slice_core::SliceState;
-use slice_queues_message::{Class, Pick};
+use slice_queues::{Class, Pick};
 use std::marker::Model;
 
 /// A slice's state and its book, which belong together. Contracts see both as a `BookedView`.

@@ -13,7 +13,7 @@ use mshr_file::MissFile;
 use receipt_ledger::{Answer, Blanks, Book, LearnError, Lends, Port, Receipt, SliceNames};
 use slice_answer::{Delivered, DeliveredNext, Evicted, Issue, Refused};
 use slice_core::SliceState;
-use slice_queues_message::{Class, Pick};
+use slice_queues::{Class, Pick};
 use std::alloc::{AllocError, Global};
 use std::sync::{Mutex, MutexGuard, Wait};
 

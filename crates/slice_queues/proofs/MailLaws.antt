@@ -13,10 +13,10 @@ use Rattle.address_map.specs.CoreSet.{has, with, without}
 use Rattle.address_map.proofs.CoreSets.{has-zero, has-with_same, has-with_other, has-without_same, has-without_other}
 use Rattle.address_map.proofs.CoreSets.{without-missing, zero-from_none}
 use Rattle.address_map.specs.declared.block.Block.{Block}
-use Rattle.slice_queues_message.specs.declared.channel.Channel.TheVariants as channels
-use Rattle.slice_queues_message.specs.declared.message.RequestMessage.{RequestMessage}
-use Rattle.slice_queues_message.specs.declared.message.ForwardedMessage.{ForwardedMessage}
-use Rattle.slice_queues_message.specs.declared.message.DataMessage.{DataMessage}
+use Rattle.slice_queues.specs.declared.channel.Channel.TheVariants as channels
+use Rattle.slice_queues.specs.declared.message.RequestMessage.{RequestMessage}
+use Rattle.slice_queues.specs.declared.message.ForwardedMessage.{ForwardedMessage}
+use Rattle.slice_queues.specs.declared.message.DataMessage.{DataMessage}
 use Rattle.slice_queues.specs.declared.lines.LineHead.{LineHead}
 use Rattle.slice_queues.specs.declared.mail.Mail.{Mail}
 use Rattle.slice_queues.specs.Count.{shows_mail}

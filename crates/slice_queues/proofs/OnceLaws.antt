@@ -8,10 +8,10 @@ use Rattle.std.proofs.lemmas.Bool.{cases_eq, cases_lt, ne_eqb}
 use Rattle.std.proofs.lemmas.List.{length-map, get_or_past}
 use Rattle.std.proofs.lemmas.List.Sums.{sum_by-append, sum_by-cons}
 use Rattle.address_map.specs.declared.address.CoreId.{CoreId}
-use Rattle.slice_queues_message.specs.declared.channel.Channel.{Channel}
-use Rattle.slice_queues_message.specs.declared.channel.Channel.TheVariants as channels
-use Rattle.slice_queues_message.specs.declared.message.RequestMessage.{RequestMessage}
-use Rattle.slice_queues_message.specs.declared.message.DataMessage.{DataMessage}
+use Rattle.slice_queues.specs.declared.channel.Channel.{Channel}
+use Rattle.slice_queues.specs.declared.channel.Channel.TheVariants as channels
+use Rattle.slice_queues.specs.declared.message.RequestMessage.{RequestMessage}
+use Rattle.slice_queues.specs.declared.message.DataMessage.{DataMessage}
 use Rattle.address_map.specs.declared.block.Block.{Block}
 use Rattle.address_map.specs.CoreSet.{has, members}
 use Rattle.slice_queues.specs.Line.{CoreChannels, LineChannels, no_messages, core_at, has_request, has_forwarded}

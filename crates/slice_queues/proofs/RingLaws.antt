@@ -16,7 +16,7 @@ use Rattle.std.proofs.lemmas.Map.Steps.{length-le_from_distinct_below}
 use Rattle.circular_buffer.specs.Buffer.{Buffer, buffer, keep_last}
 use Rattle.address_map.specs.Locator.{Lines}
 use Rattle.slice_queues.specs.Line.{LineChannels, empty_line, has_mail, IsEmptyLine, TakesOnly}
-use Rattle.slice_queues_message.specs.declared.channel.Channel.{Channel}
+use Rattle.slice_queues.specs.declared.channel.Channel.{Channel}
 use Rattle.slice_queues.proofs.LineLaws.{read_default, IsEmptyLine-from_taken}
 use Rattle.slice_queues.proofs.SliceLaws.{IsEmptyLine-empty_line}
 use Rattle.slice_queues.proofs.MailLaws.{or_false, no_mail-from_IsEmptyLine, IsEmptyLine-from_no_mail}

@@ -21,8 +21,8 @@ use Rattle.slice_queues.specs.Mail.{no_marks, IsLine}
 use Rattle.slice_queues.specs.Runs.{blank_head, head_at, has_run, run_under, line_under, lines_under, opened_first}
 use Rattle.slice_queues.specs.Runs.{opened_cores, IsRuns}
 use Rattle.slice_queues.specs.Waiting.{is_from_core}
-use Rattle.slice_queues_message.specs.declared.channel.Channel.{Channel}
-use Rattle.slice_queues_message.specs.declared.channel.Channel.TheVariants as channels
+use Rattle.slice_queues.specs.declared.channel.Channel.{Channel}
+use Rattle.slice_queues.specs.declared.channel.Channel.TheVariants as channels
 use Rattle.slice_queues.specs.Count.{one_where}
 use Rattle.slice_queues.proofs.LineLaws.{read_default}
 use Rattle.slice_queues.proofs.MailLaws.{IsLine-empty}

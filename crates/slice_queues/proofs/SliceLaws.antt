@@ -7,12 +7,12 @@ use Rattle.std.proofs.lemmas.Nat.{mod-mul-add, div-mul-add}
 use Rattle.std.proofs.lemmas.List.{get_or-set_same, get_or-set_other, get_or_past}
 use Rattle.std.proofs.lemmas.Bool.{cases_eq, cases_lt}
 use Rattle.address_map.specs.declared.address.LineAddr.{LineAddr}
-use Rattle.slice_queues_message.specs.declared.channel.Channel.{Channel}
-use Rattle.slice_queues_message.specs.declared.channel.Channel.TheVariants as channels
-use Rattle.slice_queues_message.specs.declared.channel.Pick.{Pick}
-use Rattle.slice_queues_message.specs.declared.channel.Pick.TheVariants as picks
-use Rattle.slice_queues_message.specs.declared.message.Message.{Message}
-use Rattle.slice_queues_message.specs.Pick.{line_of, channel_of, pick_at}
+use Rattle.slice_queues.specs.declared.channel.Channel.{Channel}
+use Rattle.slice_queues.specs.declared.channel.Channel.TheVariants as channels
+use Rattle.slice_queues.specs.declared.channel.Pick.{Pick}
+use Rattle.slice_queues.specs.declared.channel.Pick.TheVariants as picks
+use Rattle.slice_queues.specs.declared.message.Message.{Message}
+use Rattle.slice_queues.specs.Pick.{line_of, channel_of, pick_at}
 use Rattle.slice_queues.specs.Line.{LineChannels, messages_at, after_send, empty_line, IsEmptyLine, SendsOnly}
 use Rattle.slice_queues.specs.Line.{TakesOnly}
 use Rattle.slice_queues.specs.Slice.{SliceChannels, is_of_slice, HasLine, local_of, line_at, with_line, messages_in}

@@ -1,6 +1,6 @@
 -- A forwarded queue is the list of its messages, the oldest first.
 use Rattle.std.specs.Prelude.{List, [], ◌∷◌}
-use Rattle.slice_queues_message.specs.declared.message.ForwardedMessage.{ForwardedMessage}
+use Rattle.slice_queues.specs.declared.message.ForwardedMessage.{ForwardedMessage}
 use Rattle.slice_queues.specs.declared.forwarded_queue.ForwardedQueue.{ForwardedQueue}
 use Rattle.slice_queues.specs.declared.forwarded_queue.ForwardedQueue.TheVariants.{Empty, One, Two}
 

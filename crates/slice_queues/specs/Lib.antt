@@ -1,3 +1,5 @@
+pub mod Pick
+pub mod Class
 pub mod Forwarded
 pub mod Line
 pub mod Mail
@@ -5,7 +7,5 @@ pub mod Runs
 pub mod Slice
 pub mod Ring
 pub mod Count
-pub use Rattle.slice_queues_message.specs.Pick
-pub use Rattle.slice_queues_message.specs.Class
 pub mod Lending
 pub mod Waiting

@@ -1,8 +1,8 @@
 -- For which cores of a line messages wait, by kind, as sets of cores.
 use Rattle.std.specs.Prelude.{◌≡◌, ℕ, Bool, List, slice_index_or, bit_or}
 use Rattle.address_map.specs.CoreSet.{has}
-use Rattle.slice_queues_message.specs.declared.channel.Class.{Class}
-use Rattle.slice_queues_message.specs.declared.channel.Class.TheVariants as classes
+use Rattle.slice_queues.specs.declared.channel.Class.{Class}
+use Rattle.slice_queues.specs.declared.channel.Class.TheVariants as classes
 use Rattle.slice_queues.specs.declared.mail.Mail.{Mail}
 use Rattle.slice_queues.specs.Line.{CoreChannels, no_messages, has_request, has_forwarded, has_data, has_acks}
 use Rattle.slice_queues.specs.Line.{IsWithinCores}

@@ -2,9 +2,9 @@
 use Rattle.std.specs.Prelude.{◌≡◌, ◌≢◌, ℕ, ◌/◌, ◌%◌, ◌<◌, ◌==◌, ◌++◌, if◌then◌else◌, List, [], ◌∷◌, length, drop}
 use Rattle.std.specs.Prelude.{replicate, slice_set, slice_index_or, Bool}
 use Rattle.address_map.specs.declared.address.LineAddr.{LineAddr}
-use Rattle.slice_queues_message.specs.declared.channel.Pick.{Pick}
-use Rattle.slice_queues_message.specs.declared.message.Message.{Message}
-use Rattle.slice_queues_message.specs.Pick.{line_of, channel_of}
+use Rattle.slice_queues.specs.declared.channel.Pick.{Pick}
+use Rattle.slice_queues.specs.declared.message.Message.{Message}
+use Rattle.slice_queues.specs.Pick.{line_of, channel_of}
 use Rattle.slice_queues.specs.Line.{LineChannels, messages_at, room_of, HasChannel, after_send, after_take, empty_line}
 
 -- the channels of each line, by its place in the slice; which slice it is; and how many slices the lines are dealt

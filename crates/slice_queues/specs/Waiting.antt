@@ -4,12 +4,12 @@ use Rattle.std.specs.Prelude.{if◌then◌else◌, is_some, length, List, [], �
 use Rattle.std.specs.Prelude.{Bool}
 use Rattle.address_map.specs.Locator.{Lines}
 use Rattle.address_map.specs.declared.address.LineAddr.{LineAddr}
-use Rattle.slice_queues_message.specs.declared.channel.Channel.{Channel}
-use Rattle.slice_queues_message.specs.declared.channel.Channel.TheVariants as channels
-use Rattle.slice_queues_message.specs.declared.channel.Pick.{Pick}
-use Rattle.slice_queues_message.specs.Pick.{line_of, channel_of, pick_at}
-use Rattle.slice_queues_message.specs.declared.channel.Class.{Class}
-use Rattle.slice_queues_message.specs.Class.{is_of_class}
+use Rattle.slice_queues.specs.declared.channel.Channel.{Channel}
+use Rattle.slice_queues.specs.declared.channel.Channel.TheVariants as channels
+use Rattle.slice_queues.specs.declared.channel.Pick.{Pick}
+use Rattle.slice_queues.specs.Pick.{line_of, channel_of, pick_at}
+use Rattle.slice_queues.specs.declared.channel.Class.{Class}
+use Rattle.slice_queues.specs.Class.{is_of_class}
 use Rattle.slice_queues.specs.declared.mail.Mail.{Mail}
 use Rattle.slice_queues.specs.declared.waiting.AcksLeft.{AcksLeft}
 use Rattle.slice_queues.specs.declared.waiting.ChannelsLeft.{ChannelsLeft}

@@ -2,7 +2,7 @@ ghost use Rattle.std.specs.Prelude.{◌≡◌};
 
 use super::forwarded_queue::ForwardedQueue;
 use address_map::CoreSet;
-use slice_queues_message::{DataMessage, RequestMessage};
+use super::{DataMessage, RequestMessage};
 use std::marker::Model;
 
 /// One core's channels of a line: its request to the directory, and what waits for it.

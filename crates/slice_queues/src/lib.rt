@@ -1,4 +1,9 @@
-//! The channels of one slice, kept by line: those of a line are found without a look at other lines.
+//! The messages of the protocol, and the channels of one slice that carry them, kept by line: those of a line are found
+//! without a look at other lines.
+//!
+//! [`Message`] is what a channel carries, [`Channel`] one channel of a line, and [`Pick`] one of a line of the memory.
+//! A pick's line and channel are those that it names, and a channel at a line is the pick of both (specs/Pick.antt). A
+//! [`Class`] is the channels of one kind, or all of them (specs/Class.antt).
 //!
 //! For each core a line has a request channel with room for one message, a forwarded channel with room for two, first
 //! in first out, a data channel with room for one, and from each core a channel for one acknowledgement. One more
@@ -35,20 +40,21 @@
 //! [`Queues::picks_from`] look at each line.
 #![tactic(auto)]
 
+pub use channel::{Channel, Class, Pick};
 pub use line_queues::LineQueues;
+pub use message::{DataMessage, ForwardedMessage, Message, RequestMessage};
 pub use picks::Picks;
 pub use queues::Queues;
-pub use slice_queues_message::{
-    Channel, Class, DataMessage, ForwardedMessage, Message, Pick, RequestMessage,
-};
 pub use waiting::{ChannelsLeft, LineWaiting};
 
+mod channel;
 mod core_queues;
 mod forwarded_queue;
 mod line_by_channel;
 mod line_queues;
 mod lines;
 mod mail;
+mod message;
 mod picks;
 mod queues;
 mod ring;

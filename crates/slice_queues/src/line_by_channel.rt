@@ -2,7 +2,7 @@ ghost use Rattle.std.specs.Prelude.{◌≡◌, ◌↔◌, slice_get, IsTrue};
 ghost use Rattle.slice_queues.specs.Line.{messages_at, HasChannel, HasRoom};
 
 use super::line_queues::LineQueues;
-use slice_queues_message::{Channel, Message};
+use super::{Channel, Message};
 
 /// The channels by their names.
 impl LineQueues<'_> {

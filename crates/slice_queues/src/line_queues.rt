@@ -1,13 +1,13 @@
 ghost use Rattle.std.specs.Prelude.{◌≡◌, ◌↔◌, [], drop, filter, length, not, ◌&&◌, slice_get, false, IsTrue};
-ghost use Rattle.slice_queues_message.specs.Class.{is_of_class};
+ghost use Rattle.slice_queues.specs.Class.{is_of_class};
 ghost use Rattle.std.specs.Option.{option_copied};
-ghost use Rattle.slice_queues_message.specs.declared.channel.Channel.TheVariants as channels;
+ghost use Rattle.slice_queues.specs.declared.channel.Channel.TheVariants as channels;
 
 use super::core_queues::CoreQueues;
 use super::lines::LineHead;
 use super::waiting::{ChannelsLeft, LineWaiting};
 use address_map::{Block, CoreId, CoreSet};
-use slice_queues_message::{Channel, Class, DataMessage, ForwardedMessage, RequestMessage};
+use super::{Channel, Class, DataMessage, ForwardedMessage, RequestMessage};
 use std::marker::Model;
 
 /// The channels of one line, to be looked at.

@@ -1,6 +1,6 @@
 ghost use Rattle.std.specs.Prelude.{◌≡◌, ◌↔◌, ℕ, ◌+◌, ◌^◌, ◌<◌, ◌≤◌, ◌++◌, ◌&&◌, length, replicate, true, false};
 ghost use Rattle.std.specs.Prelude.{vec_capacity, slice_set, slice_index_or, slice_get, IfOk, IsTrue};
-ghost use Rattle.slice_queues_message.specs.declared.channel.Channel.TheVariants as channels;
+ghost use Rattle.slice_queues.specs.declared.channel.Channel.TheVariants as channels;
 ghost use Rattle.slice_queues.specs.Line.{LineChannels, no_messages, core_at, with_core, after_send, after_take};
 ghost use Rattle.slice_queues.specs.Line.{HasChannel, Carries, IsOfCore};
 ghost use Rattle.slice_queues.specs.Mail.{IsLine};
@@ -9,7 +9,7 @@ use super::core_queues::CoreQueues;
 use super::line_queues::LineQueues;
 use super::mail::{Mail, without_unless};
 use address_map::{Block, CoreId, CoreSet, Local};
-use slice_queues_message::{Channel, ForwardedMessage, Message};
+use super::{Channel, ForwardedMessage, Message};
 use std::alloc::{AllocError, Global};
 use std::boxed::BoxedSlice;
 use std::marker::Model;

@@ -3,7 +3,7 @@ ghost use Rattle.address_map.specs.CoreSet.{without};
 ghost use Rattle.slice_queues.specs.Mail.{all_marked, marks_of, no_marks};
 
 use address_map::{CoreId, CoreSet};
-use slice_queues_message::Class;
+use super::Class;
 
 /// The cores of a line for which messages wait, by kind: of requests, those that sent them.
 #[derive(Clone, Copy)]

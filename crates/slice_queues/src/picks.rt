@@ -3,7 +3,7 @@ ghost use Rattle.std.specs.Prelude.{◌≡◌, ◌≤◌, ◌-◌, ◌++◌, len
 use super::lines::Lines;
 use super::waiting::LineWaiting;
 use address_map::{LineAddr, Local};
-use slice_queues_message::Pick;
+use super::Pick;
 use std::marker::Model;
 
 /// The picks with a message of a run of lines, line by line.
@@ -21,7 +21,7 @@ pub struct LinesWaiting<'a> {
 
 impl<'a> Model for LinesWaiting<'a> {
     ghost use Rattle.std.specs.Prelude.{List, ◌≤◌, ◌-◌, length, take, drop};
-    ghost use Rattle.slice_queues_message.specs.declared.channel.Pick.{Pick};
+    ghost use Rattle.slice_queues.specs.declared.channel.Pick.{Pick};
     ghost use Rattle.slice_queues.specs.Waiting.{lines_left, IsAddressedFrom};
 
     ghost Value = { List Pick };
@@ -83,7 +83,7 @@ pub struct Picks<'a> {
 
 impl<'a> Model for Picks<'a> {
     ghost use Rattle.std.specs.Prelude.{List, ◌++◌};
-    ghost use Rattle.slice_queues_message.specs.declared.channel.Pick.{Pick};
+    ghost use Rattle.slice_queues.specs.declared.channel.Pick.{Pick};
 
     ghost Value = { List Pick };
 

@@ -1,6 +1,6 @@
 ghost use Rattle.std.specs.Prelude.{◌≡◌, ℕ, ◌<◌, ◌≤◌, ◌↔◌, ◌++◌, [], length, take, drop, filter, slice_get};
 ghost use Rattle.std.specs.Prelude.{slice_index, Some, IsTrue, IfOk};
-ghost use Rattle.slice_queues_message.specs.Pick.{line_of, channel_of};
+ghost use Rattle.slice_queues.specs.Pick.{line_of, channel_of};
 ghost use Rattle.slice_queues.specs.Ring.{with_listed};
 
 use super::line_queues::LineQueues;
@@ -8,7 +8,7 @@ use super::lines::Lines;
 use super::picks::{LinesWaiting, Picks};
 use super::ring::LineRing;
 use address_map::{CoreId, CoreSet, LineAddr, Local, Locator};
-use slice_queues_message::{Channel, Message, Pick};
+use super::{Channel, Message, Pick};
 use std::alloc::{AllocError, Global};
 use std::marker::Model;
 

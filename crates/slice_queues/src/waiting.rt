@@ -5,7 +5,7 @@ ghost use Rattle.slice_queues.specs.Waiting.{AreCores, acks_from, channels_left,
 use super::core_queues::CoreQueues;
 use super::mail::Mail;
 use address_map::{CoreId, CoreSet};
-use slice_queues_message::Channel;
+use super::Channel;
 use std::marker::Model;
 
 /// The acknowledgements of one line that are left, by their receivers, and those for one by their senders.
@@ -102,7 +102,7 @@ pub struct LineWaiting<'a> {
 
 impl<'a> Model for LineWaiting<'a> {
     ghost use Rattle.std.specs.Prelude.{List};
-    ghost use Rattle.slice_queues_message.specs.declared.channel.Channel.{Channel};
+    ghost use Rattle.slice_queues.specs.declared.channel.Channel.{Channel};
     ghost use Rattle.slice_queues.specs.Waiting.{AreCores, channels_left};
 
     ghost Value = { List Channel };

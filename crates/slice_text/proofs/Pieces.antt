@@ -11,8 +11,8 @@ use Rattle.slice_core.specs.Facts.{ShowsLine}
 use Rattle.slice_core_cache.specs.Copy.{is_gone}
 use Rattle.slice_core_cache.specs.CoreCache.{state_of}
 use Rattle.slice_core_cache.specs.declared.copy.CacheCopy.{CacheCopy}
-use Rattle.slice_core_plan.specs.View.{View, entry_at}
-use Rattle.slice_core_steps.specs.declared.line_view.LineView.{LineView}
+use Rattle.slice_core_spec.specs.View.{View, entry_at}
+use Rattle.slice_core_exec.specs.declared.line_view.LineView.{LineView}
 use Rattle.slice_text.specs.Line.{entry_in, text_of_line, text_of_state}
 use Rattle.slice_text.specs.Shown.{is_idle, rests, text_of_copy, text_of_cores_of, text_of_held, text_of_place}
 use Rattle.slice_text.specs.Shown.{text_of_targets}

@@ -9,8 +9,8 @@ use Rattle.slice_text.specs.declared.step.effects.Done.{Done}
 use Rattle.slice_text.specs.declared.step.delivery.ExplainedDelivery.{ExplainedDelivery}
 use Rattle.slice_answer.specs.declared.answer.Delivery.TheVariants as deliveries
 use Rattle.slice_answer.specs.declared.answer.Delivery.{Delivery}
-use Rattle.slice_core_plan.specs.declared.transition.Transition.TheVariants as transitions
-use Rattle.slice_core_plan.specs.declared.transition.Transition.{Transition}
+use Rattle.slice_core_spec.specs.declared.transition.Transition.TheVariants as transitions
+use Rattle.slice_core_spec.specs.declared.transition.Transition.{Transition}
 
 -- a message that is moved: the state that follows, and what is done besides
 abbrev pub text_of_transition : ℕ → CoreId → Done → Transition → List ℕ

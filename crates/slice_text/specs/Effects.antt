@@ -15,7 +15,7 @@ use Rattle.directory_table.specs.declared.state.DirState.{DirState}
 use Rattle.directory_table.specs.declared.state.DirState.TheVariants as dir_states
 use Rattle.slice_answer.specs.declared.answer.Cell.{Cell}
 use Rattle.slice_answer.specs.declared.answer.Cell.TheVariants as cells
-use Rattle.slice_queues_message.specs.declared.message.Message.{Message}
+use Rattle.slice_queues.specs.declared.message.Message.{Message}
 use Rattle.slice_text.specs.Cores.{text_of_cores, text_of_invalidations}
 use Rattle.slice_text.specs.Message.{text_of_message}
 use Rattle.slice_text.specs.declared.step.case.Who.{Who}

@@ -14,9 +14,9 @@ use Rattle.slice_core_cache.specs.declared.access.AccessKind.{AccessKind}
 use Rattle.slice_core_cache.specs.declared.access.AccessKind.TheVariants as access_kinds
 use Rattle.slice_core_cache.specs.declared.access.Ask.{Ask}
 use Rattle.slice_core_cache.specs.declared.access.Ask.TheVariants as asks
-use Rattle.slice_core_plan.specs.declared.decision.Decision.{Decision}
-use Rattle.slice_core_plan.specs.declared.decision.Decision.TheVariants as decisions
-use Rattle.slice_queues_message.specs.declared.message.Message.{Message}
+use Rattle.slice_core_spec.specs.declared.decision.Decision.{Decision}
+use Rattle.slice_core_spec.specs.declared.decision.Decision.TheVariants as decisions
+use Rattle.slice_queues.specs.declared.message.Message.{Message}
 use Rattle.slice_text.specs.Case.{text_of_case}
 use Rattle.slice_text.specs.Effects.{text_of_awaited}
 use Rattle.slice_text.specs.Message.{text_of_message}

@@ -9,7 +9,7 @@ use Rattle.cache_table.specs.declared.state.CopyState.{CopyState}
 use Rattle.directory_table.specs.Name.{name_of as name_of_dir}
 use Rattle.directory_table.specs.declared.state.DirEntry.{DirEntry}
 use Rattle.directory_table.specs.declared.state.DirState.{DirState}
-use Rattle.slice_core_steps.specs.declared.line_view.LineView.{LineView}
+use Rattle.slice_core_exec.specs.declared.line_view.LineView.{LineView}
 use Rattle.slice_text.specs.Cores.{text_of_cores}
 
 -- the line, and the state of the directory's entry

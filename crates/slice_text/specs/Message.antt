@@ -1,11 +1,11 @@
 -- What messages are called.
 use Rattle.std.specs.Prelude.{ℕ, List, ◌++◌, codes, decimal}
-use Rattle.slice_queues_message.specs.declared.message.DataMessage.TheVariants as data_messages
-use Rattle.slice_queues_message.specs.declared.message.ForwardedMessage.TheVariants as forwarded_messages
-use Rattle.slice_queues_message.specs.declared.message.Message.{Message}
-use Rattle.slice_queues_message.specs.declared.message.Message.TheVariants as messages
-use Rattle.slice_queues_message.specs.declared.message.RequestMessage.{RequestMessage}
-use Rattle.slice_queues_message.specs.declared.message.RequestMessage.TheVariants as request_messages
+use Rattle.slice_queues.specs.declared.message.DataMessage.TheVariants as data_messages
+use Rattle.slice_queues.specs.declared.message.ForwardedMessage.TheVariants as forwarded_messages
+use Rattle.slice_queues.specs.declared.message.Message.{Message}
+use Rattle.slice_queues.specs.declared.message.Message.TheVariants as messages
+use Rattle.slice_queues.specs.declared.message.RequestMessage.{RequestMessage}
+use Rattle.slice_queues.specs.declared.message.RequestMessage.TheVariants as request_messages
 
 -- messages under their names in the tables, with the requester that they name, or the acknowledgements to await
 abbrev pub text_of_request : RequestMessage → List ℕ

@@ -20,8 +20,8 @@ use Rattle.slice_core_cache.specs.CoreCache.{state_of, tag_at}
 use Rattle.slice_core_cache.specs.declared.copy.CacheCopy.{CacheCopy}
 use Rattle.slice_core_cache.specs.declared.tags.TagState.{TagState}
 use Rattle.slice_core_cache.specs.declared.tags.TagState.TheVariants as tag_states
-use Rattle.slice_core_plan.specs.Parts.{PartsView, ring_lines}
-use Rattle.slice_core_plan.specs.View.{View, entry_at, cache_at}
+use Rattle.slice_core_spec.specs.Parts.{PartsView, ring_lines}
+use Rattle.slice_core_spec.specs.View.{View, entry_at, cache_at}
 use Rattle.slice_text.specs.Line.{text_of_state, text_of_words}
 use Rattle.slice_text.specs.Performed.{text_of_op}
 use Rattle.target_list.specs.declared.target.Target.{Target}

@@ -178,7 +178,7 @@ impl Check {
         ensures refused { IfErr result (λ fault. fault ≡ TextFault.NoMemory) }
         ensures version { self.new.version ≡ self.old.version }
     {
-        // so many entries are in no memory
+        // 2^64 entries fit no memory
         let Some(entries) = self.entries.checked_add(1) else {
             return Err(TextFault::NoMemory);
         };

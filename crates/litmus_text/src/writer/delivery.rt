@@ -1,5 +1,5 @@
 use address_map::CoreId;
-use slice_queues_message::Pick;
+use slice_queues::Pick;
 use std::fmt;
 
 /// The command of a script that delivers the message in front of a channel.

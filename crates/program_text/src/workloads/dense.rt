@@ -7,7 +7,7 @@ use std::alloc::AllocError;
 /// How many rows and columns a block of a matrix has.
 const BLOCK: u64 = 4;
 
-/// A blocked product of two matrices: each core has every so manyth row of blocks.
+/// A blocked product of two matrices: core `c` computes the rows of blocks `c`, `c + cores`, `c + 2 * cores`, ..
 pub(crate) fn push_matmul(text: &mut Vec<u8>, cores: u64, size: u64) -> Result<(), AllocError>
     requires size { size ≤ 64 }
 {

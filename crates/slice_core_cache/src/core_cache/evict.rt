@@ -11,7 +11,7 @@ use cache_table::{CacheEvent, CacheSends, Row, cache_row};
 use mshr_file::MissFile;
 use rand_core::utils::NextWord;
 use slice_answer::Evicted;
-use slice_queues_message::RequestMessage;
+use slice_queues::RequestMessage;
 use writeback_buffer::Leaving;
 
 impl<F: MissFile> CoreCache<F> {

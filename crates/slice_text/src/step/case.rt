@@ -2,7 +2,7 @@ use super::message::MessageName;
 use address_map::CoreId;
 use cache_table::CopyState;
 use directory_table::DirState;
-use slice_queues_message::Message;
+use slice_queues::Message;
 use std::fmt;
 
 /// Who does a row of the tables, and in which state its entry or its copy of the line is.

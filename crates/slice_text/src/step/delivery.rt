@@ -3,7 +3,7 @@ use super::effects::{
     AskedOfDirectory, Done, Entry, FromCore, FromDirectory, Numbers, awaited, broken, home,
 };
 use address_map::CoreId;
-use slice_core_plan::{Plan, Transition};
+use slice_core_spec::{Plan, Transition};
 use std::fmt;
 
 /// A delivery: the case that the message in front of a channel met, what was planned for it, and what was done of that.

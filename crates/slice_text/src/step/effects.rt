@@ -10,7 +10,7 @@ use address_map::{CoreId, CoreSet};
 use cache_table::{CacheSends, CopyState};
 use directory_table::{DirSends, DirState};
 use slice_answer::Cell;
-use slice_queues_message::Message;
+use slice_queues::Message;
 use std::fmt;
 
 /// A directory's entry: its state with the owner, or with the sharers if it has any.

@@ -9,8 +9,8 @@ use address_map::{Op, Request};
 use cache_table::CopyState;
 use slice_answer::{Evicted, Refused, Stall};
 use slice_core_cache::{AccessKind, Ask};
-use slice_core_plan::Decision;
-use slice_queues_message::Message;
+use slice_core_spec::Decision;
+use slice_queues::Message;
 use std::fmt;
 
 impl Event {

@@ -2,7 +2,7 @@ ghost use Rattle.std.specs.Prelude.{◌≡◌};
 ghost use Rattle.slice_text.specs.Message.{text_of_request};
 
 use address_map::CoreId;
-use slice_queues_message::{DataMessage, ForwardedMessage, Message, RequestMessage};
+use slice_queues::{DataMessage, ForwardedMessage, Message, RequestMessage};
 use std::fmt;
 
 /// A message under its name in the tables, with the core that it names or the acknowledgements to await.

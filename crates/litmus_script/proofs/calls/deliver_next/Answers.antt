@@ -1,4 +1,4 @@
-use Rattle.slice_queues_message.specs.declared.channel.Class.TheVariants as classes
+use Rattle.slice_queues.specs.declared.channel.Class.TheVariants as classes
 use Rattle.litmus_script.proofs.CallLemmas.{delivered_next}
 use Rattle.litmus_script.proofs.calls.deliver_next.Goals as goal
 

@@ -2,7 +2,7 @@ use Rattle.std.proofs.Common.{List, subst}
 use Rattle.std.specs.Fmt.{WritesInCalls}
 use Rattle.litmus_script.specs.Waiting.{flights_of, lines_of}
 use Rattle.litmus_script.proofs.WaitingLemmas.{next_line}
-use Rattle.slice_queues_message.specs.declared.channel.Pick.{Pick}
+use Rattle.slice_queues.specs.declared.channel.Pick.{Pick}
 use Rattle.litmus_script.proofs.waiting.write_slice.Goals as goal
 
 pub loop-pick-preserved : goal.loop-pick-preserved

@@ -2,7 +2,7 @@ use Rattle.std.proofs.Common.{◌+◌, ◌∷◌, ◌∙◌, ap, drop, sym}
 use Rattle.litmus_text.proofs.Pieces.{next_piece}
 use Rattle.litmus_script.specs.Waiting.{in_flight, lines_of}
 use Rattle.litmus_script.proofs.WaitingLemmas.{lines_of_slices}
-use Rattle.slice_core_plan.specs.Calls.{PartsView}
+use Rattle.slice_core_spec.specs.Calls.{PartsView}
 use Rattle.litmus_script.proofs.waiting.write_slices.Goals as goal
 
 pub loop-state-preserved : goal.loop-state-preserved

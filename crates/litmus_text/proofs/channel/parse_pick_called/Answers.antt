@@ -1,5 +1,5 @@
 use Rattle.litmus_text.specs.Command.{HasPick}
-use Rattle.slice_queues_message.specs.declared.channel.Pick.TheVariants as picks
+use Rattle.slice_queues.specs.declared.channel.Pick.TheVariants as picks
 use Rattle.litmus_text.proofs.ChannelLemmas.{ack_fault, data_fault, fwd_fault, home_fault, reads_none, req_fault}
 use Rattle.litmus_text.proofs.FaultLemmas.{lacks_one, lacks_three}
 use Rattle.litmus_text.proofs.channel.parse_pick_called.Goals as goal

@@ -1,5 +1,5 @@
 use Rattle.std.proofs.Common.{◌≡◌, ◌++◌, length, map}
-use Rattle.slice_queues_message.specs.Pick.{pick_at}
+use Rattle.slice_queues.specs.Pick.{pick_at}
 use Rattle.litmus_walk.specs.declared.moves.Move.TheVariants as moves
 use Rattle.litmus_walk.proofs.moves.push_deliveries.Given as goal
 

@@ -1,6 +1,6 @@
 use Rattle.std.proofs.Common.{◌≡◌, ◌++◌, ◌-◌, length, take}
 use Rattle.std.specs.List.{flat_map}
-use Rattle.slice_core_plan.specs.Parts.{ring_lines}
+use Rattle.slice_core_spec.specs.Parts.{ring_lines}
 use Rattle.program_run.specs.Run.{waiting_of}
 use Rattle.program_run.proofs.front.list_behind.Given as goal
 

@@ -1,5 +1,5 @@
 use Rattle.std.proofs.Common.{◌≡◌, ◌++◌, length, map}
-use Rattle.slice_queues_message.specs.Pick.{pick_at}
+use Rattle.slice_queues.specs.Pick.{pick_at}
 use Rattle.program_run.specs.declared.moves.Move.TheVariants as moves
 use Rattle.program_run.proofs.front.push_all.Given as goal
 

@@ -1,7 +1,7 @@
 use Rattle.std.proofs.Common.{◌≡◌, ◌%◌, ◌∙◌, ap}
 use Rattle.address_map.specs.declared.address.LineAddr.{LineAddr}
 use Rattle.script_explained.proofs.PlayerLemmas.{delivery_made}
-use Rattle.slice_queues_message.specs.Pick.{line_of}
+use Rattle.slice_queues.specs.Pick.{line_of}
 use Rattle.script_explained.proofs.machine_step.deliver_step.Goals as goal
 
 pub returns-clause-step : goal.returns-clause-step

@@ -2,7 +2,7 @@ use Rattle.std.proofs.Common.{◌∙◌, ap, arith, rules, sym}
 use Rattle.std.specs.Prelude.{slice_get}
 use Rattle.script_explained.proofs.UnrestLemmas.{here, not_here, nothing_left}
 use Rattle.script_explained.specs.declared.unrest.Unrest.TheVariants as unrests
-use Rattle.slice_core_plan.specs.View.{cache_at}
+use Rattle.slice_core_spec.specs.View.{cache_at}
 use Rattle.slice_core_cache.specs.CoreCache.{tag_at}
 use Rattle.slice_core_cache.specs.Tags.{is_performed}
 use Rattle.script_explained.proofs.unrest.first_reply_of.Goals as goal

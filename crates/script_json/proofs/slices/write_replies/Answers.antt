@@ -4,7 +4,7 @@ use Rattle.script_json.proofs.SliceLemmas.{no_reply}
 use Rattle.script_json.specs.Slices.{reply_at, reply_under, text_of_reply}
 use Rattle.slice_core_cache.specs.CoreCache.{tag_at}
 use Rattle.slice_core_cache.specs.declared.tags.TagState.{TagState}
-use Rattle.slice_core_plan.specs.View.{cache_at}
+use Rattle.slice_core_spec.specs.View.{cache_at}
 use Rattle.script_json.proofs.slices.write_replies.Goals as goal
 
 pub loop-place-preserved-in_default : goal.loop-place-preserved-in_default

@@ -2,7 +2,7 @@ use Rattle.std.proofs.Common.{◌∙◌, ap, arith, decimal, sym}
 use Rattle.std.specs.List.{slice_get}
 use Rattle.script_json.proofs.Numbered.{none_at, none_behind, one_at}
 use Rattle.script_json.specs.Slices.{ring_at}
-use Rattle.slice_core_plan.specs.Parts.{ring_lines}
+use Rattle.slice_core_spec.specs.Parts.{ring_lines}
 use Rattle.script_json.proofs.slices.write_ring.Goals as goal
 
 pub loop-place-preserved-in_default : goal.loop-place-preserved-in_default

@@ -3,7 +3,7 @@ use Rattle.std.specs.Fmt.{WritesInCalls}
 use Rattle.std.specs.List.{flat_map, range_with_len, slice_get}
 use Rattle.litmus_text.specs.JsonList.{with_commas_from}
 use Rattle.script_json.specs.Slices.{list_of_ring, ring_at}
-use Rattle.slice_core_plan.specs.Parts.{ring_lines}
+use Rattle.slice_core_spec.specs.Parts.{ring_lines}
 use Rattle.script_json.proofs.slices.write_ring.Given as goal
 
 -- who writes the lines that are left has written all

@@ -4,7 +4,7 @@ use Rattle.std.proofs.Output.{writes_in_calls_append}
 use Rattle.std.specs.Fmt.{WritesInCalls}
 use Rattle.litmus_text.specs.JsonList.{with_commas_from}
 use Rattle.script_json.specs.Slices.{texts_of_slices}
-use Rattle.slice_core_plan.specs.Calls.{PartsView}
+use Rattle.slice_core_spec.specs.Calls.{PartsView}
 use Rattle.script_json.proofs.slices.write_slices.Goals as goal
 
 pub loop-number-preserved : goal.loop-number-preserved

@@ -8,7 +8,7 @@ use Rattle.litmus_text.proofs.Commas.{at_range, next_text, skip_text}
 use Rattle.script_page.proofs.Replies.{no_reply}
 use Rattle.slice_core_cache.specs.CoreCache.{tag_at}
 use Rattle.slice_core_cache.specs.declared.tags.TagState.{TagState}
-use Rattle.slice_core_plan.specs.View.{cache_at}
+use Rattle.slice_core_spec.specs.View.{cache_at}
 use Rattle.script_page.proofs.core_part.write_replies.Goals as goal
 
 pub loop-tag-preserved-in_default : goal.loop-tag-preserved-in_default

@@ -1,7 +1,7 @@
 use Rattle.std.proofs.Common.{List, subst}
 use Rattle.std.specs.Fmt.{WritesInCalls}
 use Rattle.std.specs.List.{flat_map}
-use Rattle.slice_queues_message.specs.declared.channel.Channel.{Channel}
+use Rattle.slice_queues.specs.declared.channel.Channel.{Channel}
 use Rattle.script_waves.specs.Values.{text_behind}
 use Rattle.script_waves.proofs.WavesLemmas.{next_channel}
 use Rattle.script_waves.proofs.channel.write_further.Goals as goal

@@ -1,6 +1,6 @@
 use Rattle.std.proofs.Common.{◌≡◌, ◌∙◌, ap, length}
 use Rattle.script_waves.proofs.InUseLemmas.{count_leaving, count_waiting, same_use}
-use Rattle.slice_core_plan.specs.View.{cache_at}
+use Rattle.slice_core_spec.specs.View.{cache_at}
 use Rattle.script_waves.proofs.in_use.in_use.Goals as goal
 
 pub returns : goal.returns

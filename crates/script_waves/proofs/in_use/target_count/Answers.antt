@@ -2,7 +2,7 @@ use Rattle.std.proofs.Common.{◌≡◌, ◌+◌, ◌≤◌, arith, ℕ, List}
 use Rattle.script_waves.specs.InUse.{open_of, sum_of, target_count}
 use Rattle.script_waves.proofs.InUseLemmas.{numbers_end, numbers_more}
 use Rattle.slice_core_cache.specs.CoreCache.{tag_at}
-use Rattle.slice_core_plan.specs.View.{cache_at}
+use Rattle.slice_core_spec.specs.View.{cache_at}
 use Rattle.script_waves.proofs.in_use.target_count.Goals as goal
 
 pub loop-tag-preserved : goal.loop-tag-preserved

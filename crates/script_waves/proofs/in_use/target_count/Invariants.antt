@@ -2,7 +2,7 @@ use Rattle.std.proofs.Common.{◌≡◌, ◌+◌, ◌≤◌, drop}
 use Rattle.std.specs.List.{range_with_len}
 use Rattle.script_waves.specs.InUse.{open_of, sum_of}
 use Rattle.slice_core_cache.specs.CoreCache.{tag_at}
-use Rattle.slice_core_plan.specs.View.{cache_at}
+use Rattle.slice_core_spec.specs.View.{cache_at}
 use Rattle.script_waves.proofs.in_use.target_count.Given as goal
 
 -- those that were counted, no more than the tags that were looked at, and those that are left

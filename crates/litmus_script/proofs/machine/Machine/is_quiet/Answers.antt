@@ -1,7 +1,7 @@
 use Rattle.std.proofs.Common.{sym, subst}
 use Rattle.std.specs.Prelude.{IsTrue}
-use Rattle.slice_core_plan.specs.Calls.{PartsView}
-use Rattle.slice_core_plan.specs.View.{IsQuiet}
+use Rattle.slice_core_spec.specs.Calls.{PartsView}
+use Rattle.slice_core_spec.specs.View.{IsQuiet}
 use Rattle.litmus_script.proofs.MachineLemmas.{each_more}
 use Rattle.litmus_script.proofs.machine.Machine.is_quiet.Goals as goal
 

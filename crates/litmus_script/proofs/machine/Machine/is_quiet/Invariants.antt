@@ -1,6 +1,6 @@
 use Rattle.std.proofs.Common.{ℕ, ◌<◌, get_or}
-use Rattle.slice_core_plan.specs.Calls.{PartsView}
-use Rattle.slice_core_plan.specs.View.{IsQuiet}
+use Rattle.slice_core_spec.specs.Calls.{PartsView}
+use Rattle.slice_core_spec.specs.View.{IsQuiet}
 use Rattle.litmus_script.proofs.machine.Machine.is_quiet.Given as goal
 
 abbrev pub invariant-loop-state : goal.invariant-loop-state

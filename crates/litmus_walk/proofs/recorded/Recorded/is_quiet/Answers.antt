@@ -1,6 +1,6 @@
 use Rattle.std.proofs.Common.{subst}
 use Rattle.std.specs.Prelude.{◌↔◌, All, IsTrue}
-use Rattle.slice_core_plan.specs.View.{IsQuiet}
+use Rattle.slice_core_spec.specs.View.{IsQuiet}
 use Rattle.litmus_walk.specs.Walk.{WalkView}
 use Rattle.litmus_walk.proofs.recorded.Recorded.is_quiet.Goals as goal
 

@@ -1,7 +1,7 @@
 use Rattle.std.proofs.Common.{◌≡◌, Option, Some, length, refl, slice_get, subst, sym}
 use Rattle.std.specs.Prelude.{IfSome, ◌++◌}
 use Rattle.std.proofs.lemmas.Option.{slice_get_read}
-use Rattle.slice_core_plan.specs.Calls.{PartsView}
+use Rattle.slice_core_spec.specs.Calls.{PartsView}
 use Rattle.program_run.specs.Run.{waiting_in}
 use Rattle.program_run.proofs.kept.Kept.list_waiting.Goals as goal
 

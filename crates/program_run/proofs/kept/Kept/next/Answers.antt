@@ -1,8 +1,8 @@
 use Rattle.std.proofs.Common.{◌≡◌, Option, Some, length, refl, slice_get, subst, sym}
 use Rattle.std.specs.Prelude.{IfSome}
 use Rattle.std.proofs.lemmas.Option.{slice_get_read}
-use Rattle.slice_core_plan.specs.Calls.{PartsView, next_pick}
-use Rattle.slice_queues_message.specs.declared.channel.Class.TheVariants as classes
+use Rattle.slice_core_spec.specs.Calls.{PartsView, next_pick}
+use Rattle.slice_queues.specs.declared.channel.Class.TheVariants as classes
 use Rattle.program_run.specs.Front.{delivery_if}
 use Rattle.program_run.specs.Run.{delivery_of}
 use Rattle.program_run.proofs.kept.Kept.next.Goals as goal

@@ -1,6 +1,6 @@
 use Rattle.std.proofs.Common.{subst}
 use Rattle.std.specs.Prelude.{◌↔◌, All, IsTrue}
-use Rattle.slice_core_plan.specs.View.{IsQuiet}
+use Rattle.slice_core_spec.specs.View.{IsQuiet}
 use Rattle.program_run.specs.Run.{HaveEnded, RunnerView}
 use Rattle.program_run.proofs.runner.Runner.is_over.Goals as goal
 

@@ -1,7 +1,7 @@
 use Rattle.std.proofs.Common.{map, rules}
 use Rattle.receipt_ledger.proofs.Settled.{settled}
 use Rattle.receipt_ledger.specs.History.{AreHeld}
-use Rattle.slice_core_plan.specs.View.{IsQuiet}
+use Rattle.slice_core_spec.specs.View.{IsQuiet}
 use Rattle.receipt_ledger.proofs.book.Book.settle.Goals as goal
 
 pub returns-clause-settled : goal.returns-clause-settled

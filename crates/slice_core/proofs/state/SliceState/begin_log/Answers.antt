@@ -1,6 +1,6 @@
 use Rattle.std.proofs.Common.{subst}
-use Rattle.slice_core_plan.specs.Calls.{PartsView}
-use Rattle.slice_core_steps.specs.NewLog.{with_new_log, words_now}
+use Rattle.slice_core_spec.specs.Calls.{PartsView}
+use Rattle.slice_core_exec.specs.NewLog.{with_new_log, words_now}
 use Rattle.slice_core.specs.Facts.{Holds, IsSameSlice}
 use Rattle.slice_core.specs.NewLog.{BeginsAnew}
 use Rattle.slice_core.proofs.Coherent.{holds}

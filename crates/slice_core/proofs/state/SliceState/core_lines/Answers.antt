@@ -1,7 +1,7 @@
 use Rattle.std.proofs.Common.{◌<◌, arith, ap, length}
 use Rattle.slice_core.proofs.OwnLines.{own_places}
 use Rattle.slice_core.proofs.state.SliceState.core_lines.Goals as goal
-use Rattle.slice_core_plan.specs.Parts.{PartsView}
+use Rattle.slice_core_spec.specs.Parts.{PartsView}
 
 pub core_lines-requires-clause-own : goal.core_lines-requires-clause-own
 core_lines-requires-clause-own g c =

@@ -9,7 +9,7 @@ use Rattle.slice_core.proofs.state.SliceState.deliver.Goals as goal
 use Rattle.slice_core.proofs.SameSlice.{same-deliver}
 use Rattle.slice_core.proofs.Machine.{machine-deliver}
 use Rattle.slice_core_theory.specs.Shows.{Performs}
-use Rattle.slice_core_plan.specs.Calls.{PartsView}
+use Rattle.slice_core_spec.specs.Calls.{PartsView}
 
 -- the slice that the step leaves
 sound : (g : Over) (c : goal.After-deliver g) → IsSound c.deliver.new.self

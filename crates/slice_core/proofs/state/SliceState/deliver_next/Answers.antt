@@ -9,8 +9,8 @@ use Rattle.slice_core.proofs.state.SliceState.deliver_next.Goals as goal
 use Rattle.slice_core.proofs.SameSlice.{same-next}
 use Rattle.slice_core.proofs.Machine.{machine-next}
 use Rattle.slice_core_theory.specs.Shows.{Performs}
-use Rattle.slice_core_plan.specs.Calls.{PartsView}
-use Rattle.slice_core_plan.specs.Turn.{ServesInTurn}
+use Rattle.slice_core_spec.specs.Calls.{PartsView}
+use Rattle.slice_core_spec.specs.Turn.{ServesInTurn}
 
 -- the slice that the step leaves
 sound : (g : Over) (c : goal.After-deliver_next g) → IsSound c.deliver_next.new.self

@@ -1,8 +1,8 @@
 use Rattle.std.proofs.Common.{◌<◌, arith, ap, length}
 use Rattle.slice_core.proofs.OwnLines.{own_places}
 use Rattle.slice_core.proofs.state.SliceState.last_written_back.Goals as goal
-use Rattle.slice_core_plan.specs.Parts.{PartsView}
-use Rattle.slice_core_steps.specs.declared.core_lines.CoreLines.TheVariants as core_lines
+use Rattle.slice_core_spec.specs.Parts.{PartsView}
+use Rattle.slice_core_exec.specs.declared.core_lines.CoreLines.TheVariants as core_lines
 
 pub last_written_back-requires-clause-own : goal.last_written_back-requires-clause-own
 last_written_back-requires-clause-own g c =

@@ -2,7 +2,7 @@ use Rattle.std.proofs.Common.{subst}
 use Rattle.slice_core.proofs.Fronts.{fronts-once}
 use Rattle.slice_core.proofs.state.SliceState.waiting.Goals as goal
 use Rattle.slice_core.specs.Facts.{HasEachFrontOnce}
-use Rattle.slice_core_plan.specs.Calls.{PartsView}
+use Rattle.slice_core_spec.specs.Calls.{PartsView}
 
 pub returns-clause-once : goal.returns-clause-once
 returns-clause-once g c =

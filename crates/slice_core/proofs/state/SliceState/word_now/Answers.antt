@@ -8,8 +8,8 @@ use Rattle.slice_core.proofs.Coherent.{shows_last}
 use Rattle.slice_core.proofs.state.SliceState.word_now.Given.{Over}
 use Rattle.slice_core.proofs.state.SliceState.word_now.Goals as goal
 use Rattle.slice_core.specs.Facts.{ShowsLast}
-use Rattle.slice_core_plan.specs.Calls.{PartsView}
-use Rattle.slice_core_plan.specs.View.{IsQuiet, word_now}
+use Rattle.slice_core_spec.specs.Calls.{PartsView}
+use Rattle.slice_core_spec.specs.View.{IsQuiet, word_now}
 
 -- the word's line is one of the slice's
 found : (g : Over) (c : goal.After-word_now g)

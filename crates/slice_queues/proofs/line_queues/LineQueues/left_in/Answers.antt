@@ -1,6 +1,6 @@
 use Rattle.std.proofs.Common.{rules, ◌≡◌, ◌&&◌, ◌∙◌, subst, filter, is_some, arith}
-use Rattle.slice_queues_message.specs.declared.channel.Channel.TheVariants as channels
-use Rattle.slice_queues_message.specs.Class.{is_of_class}
+use Rattle.slice_queues.specs.declared.channel.Channel.TheVariants as channels
+use Rattle.slice_queues.specs.Class.{is_of_class}
 use Rattle.slice_queues.specs.Line.{LineChannels}
 use Rattle.slice_queues.specs.Waiting.{HasEachOnceIn, channels_left, line_waiting}
 use Rattle.slice_queues.proofs.OnceLaws.{line_waiting-once}

@@ -1,6 +1,6 @@
 use Rattle.std.proofs.Common.{◌≡◌, ◌∙◌, ap, get_or, refl, subst, sym}
 use Rattle.std.proofs.Math.ListN.{set}
-use Rattle.slice_queues_message.specs.declared.channel.Channel.{Channel}
+use Rattle.slice_queues.specs.declared.channel.Channel.{Channel}
 use Rattle.slice_queues.specs.Line.{LineChannels, core_at, empty_line, after_take, with_core, HasChannel}
 use Rattle.slice_queues.specs.Line.{IsOfCore, TakesOnly}
 use Rattle.slice_queues.specs.declared.lines.LineHead.{LineHead}

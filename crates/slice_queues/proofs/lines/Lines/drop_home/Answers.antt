@@ -1,5 +1,5 @@
 use Rattle.std.proofs.Common.{None, refl, ◌&&◌, get_or}
-use Rattle.slice_queues_message.specs.declared.channel.Channel.TheVariants as channels
+use Rattle.slice_queues.specs.declared.channel.Channel.TheVariants as channels
 use Rattle.slice_queues.specs.declared.lines.LineHead.{LineHead}
 use Rattle.slice_queues.specs.Count.{shows_mail}
 use Rattle.slice_queues.specs.Line.{LineChannels, empty_line}

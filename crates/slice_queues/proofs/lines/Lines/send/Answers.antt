@@ -1,6 +1,6 @@
 use Rattle.std.proofs.Common.{◌≡◌, ◌∙◌, ap, arith, get_or, refl, subst, sym}
 use Rattle.std.proofs.Math.ListN.{set}
-use Rattle.slice_queues_message.specs.declared.channel.Channel.{Channel}
+use Rattle.slice_queues.specs.declared.channel.Channel.{Channel}
 use Rattle.slice_queues.specs.declared.lines.LineHead.{LineHead}
 use Rattle.slice_queues.specs.Line.{LineChannels, core_at, empty_line, after_send, with_core, HasChannel, IsOfCore}
 use Rattle.slice_queues.specs.Line.{SendsOnly}

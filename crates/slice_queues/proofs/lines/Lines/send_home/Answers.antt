@@ -1,6 +1,6 @@
 use Rattle.std.proofs.Common.{Some, true, refl, arith, get_or}
-use Rattle.slice_queues_message.specs.declared.channel.Channel.TheVariants as channels
-use Rattle.slice_queues_message.specs.declared.message.Message.TheVariants as messages
+use Rattle.slice_queues.specs.declared.channel.Channel.TheVariants as channels
+use Rattle.slice_queues.specs.declared.message.Message.TheVariants as messages
 use Rattle.slice_queues.specs.declared.lines.LineHead.{LineHead}
 use Rattle.slice_queues.specs.Line.{LineChannels, empty_line}
 use Rattle.slice_queues.proofs.CountLaws.{room-waiting, IsMailCounted-sent}

@@ -1,5 +1,5 @@
 use Rattle.std.proofs.Common.{◌≡◌, ◌∙◌, false, true, sym, refl}
-use Rattle.slice_queues_message.specs.Pick.{line_of}
+use Rattle.slice_queues.specs.Pick.{line_of}
 use Rattle.slice_queues.specs.Slice.{HasLine}
 use Rattle.slice_queues.proofs.SliceLaws.{messages_in-absent}
 use Rattle.slice_queues.proofs.queues.Queues.front.Goals as goal

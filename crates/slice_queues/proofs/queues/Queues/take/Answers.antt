@@ -1,5 +1,5 @@
 use Rattle.std.proofs.Common.{◌≡◌, ◌∙◌, false, true, sym, refl, rules}
-use Rattle.slice_queues_message.specs.Pick.{line_of}
+use Rattle.slice_queues.specs.Pick.{line_of}
 use Rattle.slice_queues.specs.Slice.{HasLine}
 use Rattle.slice_queues.proofs.SliceLaws.{takes_only_in, messages_in-absent, after_take_in-absent}
 use Rattle.slice_queues.proofs.queues.Queues.take.Goals as goal

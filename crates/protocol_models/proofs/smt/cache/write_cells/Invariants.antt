@@ -1,0 +1,12 @@
+use Rattle.std.proofs.Common.{drop}
+use Rattle.std.specs.Fmt.{WritesInCalls}
+use Rattle.protocol_models.specs.SmtCache.{cells_of}
+use Rattle.protocol_models.proofs.smt.cache.write_cells.Given as goal
+
+-- who writes the queries of the cells that are left has written all
+abbrev pub invariant-loop-case : goal.invariant-loop-case
+invariant-loop-case g l =
+    let took = g.W.Write.write_str_gives in
+    (new : g.row.W.Denot)
+    → WritesInCalls took l.out (cells_of l.state (drop l.case-index l.cases)) new
+    → WritesInCalls took l.fn.out (cells_of l.state l.cases) new

@@ -1,4 +1,0 @@
-use Rattle.protocol_smt.proofs.cache.write_cache_queries.Goals as goal
-
-pub returns : goal.returns
-returns g c = rw c.states.ensures at c.write_states.ensures

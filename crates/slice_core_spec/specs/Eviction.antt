@@ -1,0 +1,50 @@
+-- An eviction: the core's copy of a line leaves for the write-back buffer, and the directory is told by a Put. The
+-- core's own part in it is `after_evict` of `slice_core_cache` (specs/Steps.antt).
+use Rattle.std.specs.Prelude.{◌≡◌, Option, Some, None}
+use Rattle.address_map.specs.Locator.{local_at}
+use Rattle.address_map.specs.declared.address.CoreId.{CoreId}
+use Rattle.address_map.specs.declared.address.LineAddr.{LineAddr}
+use Rattle.address_map.specs.declared.address.Local.{Local}
+use Rattle.slice_answer.specs.Stats.{after_eviction}
+use Rattle.slice_answer.specs.declared.answer.Evicted.TheVariants as evictions
+use Rattle.slice_answer.specs.declared.answer.Evicted.{Evicted}
+use Rattle.slice_core_cache.specs.Access.{evicted_of}
+use Rattle.slice_core_cache.specs.CoreCache.{array_copy}
+use Rattle.slice_core_cache.specs.Steps as caches
+use Rattle.slice_core_spec.specs.Parts.{PartsView}
+use Rattle.slice_core_spec.specs.View.{View, channels_at, cache_at, with_channels, with_cache}
+use Rattle.slice_queues.specs.Line.{after_send}
+use Rattle.slice_queues.specs.Ring.{with_listed}
+use Rattle.slice_queues.specs.declared.channel.Channel.TheVariants as channels
+use Rattle.slice_queues.specs.declared.message.Message.TheVariants as messages
+use Rattle.slice_queues.specs.declared.message.RequestMessage.{RequestMessage}
+
+-- a core asks the directory for a line, or gives it up
+abbrev pub after_request : View → CoreId → Local → RequestMessage → View
+after_request v core local message =
+    with_channels v local (after_send (channels_at v local) (channels.Req core) (messages.Request message))
+
+-- the core's copy of a line leaves, and the directory is told
+abbrev pub after_evict : View → CoreId → Local → View
+after_evict v core local =
+    after_request (with_cache v core (caches.after_evict (cache_at v core) local)) core local
+    (caches.put_of (array_copy (cache_at v core) local))
+
+-- What an eviction of a line answers and leaves: a line that isn't the slice's is not held. The directory is told, so
+-- the line comes into the ring.
+abbrev pub AfterEvict : PartsView → CoreId → LineAddr → Evicted → PartsView → Type 0
+AfterEvict old core line answer new = by_line (local_at old.view.lines line.0)
+  where
+    by_answer : Local → Evicted → Type 0
+    by_answer local evictions.Evicting =
+        new
+        ≡ record old {
+          view = after_evict old.view core local;
+          stats = after_eviction old.stats core;
+          ring = with_listed old.ring local.0;
+        }
+    by_answer local _ = new ≡ old
+
+    by_line : Option Local → Type 0
+    by_line None = (answer ≡ evictions.NotHeld) × (new ≡ old)
+    by_line (Some local) = (answer ≡ evicted_of (cache_at old.view core) local) × by_answer local answer

@@ -1,5 +1,0 @@
-use Rattle.slice_core_plan.specs.Initial.{AreInitialEntries}
-use Rattle.slice_core_steps.proofs.parts.build.new_entries.Given as goal
-
-abbrev pub invariant-loop-local : goal.invariant-loop-local
-invariant-loop-local l = AreInitialEntries l.config l.lines l.local l.all.items

@@ -1,2 +1,0 @@
-pub mod Pick
-pub mod Class

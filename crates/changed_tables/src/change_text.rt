@@ -2,8 +2,8 @@
 
 use super::cache_text::{row_text, title_of as cache_title};
 use super::directory_text::{row_at_sample, sample_of, title_of as directory_title};
-use super::row_text::RowText;
 use super::tables::{CacheChange, DirectoryChange};
+use protocol_tables::RowText;
 use std::fmt;
 
 impl fmt::Display for CacheChange {

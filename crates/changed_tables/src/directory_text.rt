@@ -6,10 +6,11 @@ ghost use Rattle.changed_tables.specs.DirectoryText.{holders_text, is_asked_at, 
 ghost use Rattle.changed_tables.specs.DirectoryText.{row_at_sample, rule_text, sample_of, title_of};
 
 use super::meaning::meaning_of;
-use super::row_text::RowText;
 use address_map::{CoreId, CoreSet};
 use directory_table::{DirRow, DirState};
-use protocol_tables::{DirCase, DirMessage, DirRule, Entry, Holders, Owns, Shares, Sharing};
+use protocol_tables::{
+    DirCase, DirMessage, DirRule, Entry, Holders, Owns, RowText, Shares, Sharing,
+};
 use std::alloc::{AllocError, Global};
 
 const O: CoreId = CoreId(0);

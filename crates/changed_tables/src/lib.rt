@@ -31,7 +31,6 @@ mod fault;
 mod layout;
 mod meaning;
 mod numbers;
-mod row_text;
 mod seen;
 mod tables;
 mod word;

@@ -89,7 +89,7 @@ room-accepts-nothing old new roomier = record {
   receipts = ap (λ p. p.receipts) roomier ∙ sym (append-nil old.receipts);
 }
 
--- what a request that is answered so gets accepted
+-- what a request with this answer gets accepted
 abbrev requested : Request → Result Answer Refused → List (WordAddr × Op)
 requested request (Ok (answers.Done r)) = (request.word, request.op) ∷ []
 requested request (Ok answers.Pending) = (request.word, request.op) ∷ []

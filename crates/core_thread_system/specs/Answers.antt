@@ -1,4 +1,4 @@
--- What a core's calls answer, and what they leave.
+-- What a core's calls return, and what they leave.
 use Rattle.std.specs.Prelude.{◌≡◌, ℕ, ◌+◌, ◌<◌, ◌%◌, nat_le, if◌then◌else◌, Option, Some, None, Result, Ok, Err}
 use Rattle.std.specs.Prelude.{MatchOption}
 use Rattle.address_map.specs.Config.{word_count}

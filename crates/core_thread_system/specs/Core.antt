@@ -34,7 +34,7 @@ fresh_set core = record {
   p3 = fresh_port core (record { 0 = 3 });
 }
 
--- There are ports for each of so many cores, ascending, and nothing was asked for through any.
+-- There are ports for each of `cores` cores, ascending, and nothing was asked for through any.
 pub record AreFreshSets (cores : ℕ) (sets : List SetView) : Type 0 where
   pub long : length sets ≡ cores
   pub each : (core : CoreId) → core.0 < cores → slice_get sets core.0 ≡ Some (fresh_set core)

@@ -10,11 +10,11 @@ use Rattle.core_thread_system.specs.declared.error.BuildError.TheVariants as bui
 unfoldable pub IsRefusedFor : Config → ConfigError → Type 0
 IsRefusedFor c fault = first_fault c ≡ Some fault
 
--- no field is at fault
+-- no field is invalid
 unfoldable pub IsAccepted : Config → Type 0
 IsAccepted c = first_fault c ≡ None
 
--- The error names the configuration's first field at fault; or none is at fault, and memory was wanting.
+-- The error names the configuration's first invalid field; or none is invalid, and an allocation failed.
 abbrev pub IsFaultOf : Config → BuildError → Type 0
 IsFaultOf c (build_errors.Config fault) = IsRefusedFor c fault
 IsFaultOf c build_errors.Memory = IsAccepted c

@@ -11,7 +11,7 @@ use Rattle.receipt_ledger.specs.declared.receipt.Answer.{Answer}
 use Rattle.receipt_ledger.specs.declared.receipt.Receipt.{Receipt}
 use Rattle.slice_answer.specs.declared.answer.Refused.{Refused}
 
--- it takes a turn, which may get it a reply, or makes a request, which is answered so
+-- it takes a turn, which may get it a reply, or makes a request, which gets this answer
 pub data Move : Type 0 where
   turn : Option Receipt → Move
   ask : Request → Result Answer Refused → Move

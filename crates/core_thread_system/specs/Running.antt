@@ -1,4 +1,4 @@
--- What the parts of a run answer.
+-- What the parts of a run return.
 use Rattle.std.specs.Prelude.{◌≡◌, ◌<◌, ℕ, true, false, List, [], ◌∷◌, Option, Some, None, Result, Ok}
 use Rattle.address_map.specs.CoreSet.{has}
 use Rattle.address_map.specs.declared.config.Config.{Config}
@@ -12,13 +12,13 @@ use Rattle.receipt_ledger.specs.declared.receipt.Answer.{Answer}
 use Rattle.receipt_ledger.specs.declared.receipt.Answer.TheVariants as answers
 use Rattle.slice_answer.specs.declared.answer.Refused.{Refused}
 
--- what a request that was answered so has made: its access, where it was accepted
+-- what a request with this answer has made: its access, where it was accepted
 abbrev pub accepted_steps : Request → Result Answer Refused → List Step
 accepted_steps request (Ok (answers.Done r)) = steps.Access request.word request.op ∷ []
 accepted_steps request (Ok answers.Pending) = steps.Access request.word request.op ∷ []
 accepted_steps request answer = []
 
--- A step may end a run for want of turns, and an access because it is refused.
+-- A step may end a run because it needs more turns, and an access because it is refused.
 abbrev pub IsHaltOf : Config → Step → Halt → Type 0
 IsHaltOf c step halts.Limit = Unit {0}
 IsHaltOf c step (halts.Refused refused) = IsReasonFor c refused step

@@ -1,8 +1,8 @@
 ghost use Rattle.std.specs.Prelude.{◌≡◌};
 
-/// The ledgers of four slices before any type stands for them, all of as many parts.
 use receipt_ledger::Blanks;
 
+/// The ledgers of four slices before any type represents them, all with the same number of parts.
 #[derive(Drop)]
 pub struct SystemBlanks {
     pub slice0: Blanks,
@@ -12,7 +12,7 @@ pub struct SystemBlanks {
 }
 
 impl SystemBlanks {
-    /// Ledgers for a machine of so many cores.
+    /// Creates ledgers for a machine of `cores` cores.
     pub fn new(cores: u64) -> SystemBlanks
         ensures slice0 { result.slice0.parts ≡ cores }
         ensures slice1 { result.slice1.parts ≡ cores }

@@ -139,8 +139,8 @@ impl<'a, F: MissFile, M: SystemNames> Core<'a, F, M> {
         }
     }
 
-    /// Its request that a slice accepted as the one of this number, counted from 0, with what the core had seen of the
-    /// slice's log by then.
+    /// Returns its request that a slice accepted as the one of this number, counted from 0, with what the core had seen
+    /// of the slice's log by then.
     pub fn asked(&self, slice: SliceId, seq: u64) -> Option<Ask>
         ensures { result ≡ slice_get (asked_of self.now slice.0) seq }
     {
@@ -262,8 +262,8 @@ impl<'a, F: MissFile, M: SystemNames> Core<'a, F, M> {
         at_slice!(self, slice, |at, port| receive_from(rt, at, port))
     }
 
-    /// Tells the core of a receipt that another core got: its port of the receipt's slice learns from it. One that the
-    /// slice's log doesn't have, or of a slice that isn't there, is `Unknown`.
+    /// Notifies the core of a receipt that another core got: its port of the receipt's slice learns from it. One that
+    /// the slice's log doesn't have, or of a slice that isn't there, is `Unknown`.
     pub fn learn<R: Wait>(&mut self, rt: &R, receipt: &Receipt) -> Result<(), LearnError>
         ensures slice { OnOk result (receipt.now.slice.0 < M.setup.slices) }
         ensures learnt { OnOk result (self.new ≡ with_port self.old receipt.now.slice.0
@@ -277,7 +277,7 @@ impl<'a, F: MissFile, M: SystemNames> Core<'a, F, M> {
         at_slice!(self, slice, |at, port| at.learn(rt, port, receipt))
     }
 
-    /// Gives up its copy of a line, or says why not. Nobody holds a line past the memory.
+    /// Evicts its copy of a line, or says why not. No core holds a line past the memory.
     pub fn evict<R: Wait>(&mut self, rt: &R, line: LineAddr) -> Evicted
         ensures past { M.setup.lines ≤ line.0 → result ≡ NotHeld }
         ensures same { self.new ≡ self.old }
@@ -297,7 +297,7 @@ impl<'a, F: MissFile, M: SystemNames> Core<'a, F, M> {
         self.system.deliver_next(rt, slice, class)
     }
 
-    /// Asks a question about a slice's state while its lock is held, and answers it.
+    /// Asks a question about a slice's state while its lock is held, and returns the answer.
     pub fn inspect<R: Wait, Q: Question<F>>(&self, rt: &R, slice: SliceId, question: Q) -> Q::Answer
         requires { slice.0 < M.setup.slices }
     {

@@ -3,7 +3,7 @@ use super::names::SystemNames;
 use mshr_file::MissFile;
 use receipt_ledger::{Lends, Port};
 
-// A core lends its port of each slice, also of one that its machine doesn't have.
+// A core returns references to its port of each slice, also of one that its machine doesn't have.
 
 impl<'a, F: MissFile, M: SystemNames> Lends<Port<M::S0>, 0> for Core<'a, F, M> {
     ghost use Rattle.std.specs.Prelude.{refl};

@@ -2,20 +2,20 @@
 //!
 //! A [`System`] has each slice of the configured machine behind a lock of its own (`slice_lock`). [`System::build`]
 //! makes it, and for each core a [`PortSet`]: its port of each slice, of which there are always four. A [`Core`] is
-//! such a set in the hands of one thread, with the system that it asks. It knows the slice of each word, and which of
+//! such a set owned by one thread, with the system that it asks. It knows the slice of each word, and which of
 //! its tags are in flight.
 //!
 //! - [`Core::issue`] asks the word's slice. A word past the memory, a tag above 63 and a tag in flight are refused by
 //!   the core itself.
 //! - [`Core::collect`] takes the next reply, from whichever slice has one; [`Core::turn`] moves messages on besides.
-//! - [`Core::run`] runs a program of such calls, and tells a [`Gate`] of each request.
-//! - [`Core::settle`] settles a slice with the ports that all cores lend.
+//! - [`Core::run`] runs a program of such calls, and notifies a [`Gate`] of each request.
+//! - [`Core::settle`] settles a slice with the ports borrowed from all cores.
 //! - [`System::look`] keeps a slice's lock for a look at its state.
 //!
 //! A contract sees a core as a `CoreView` (`specs/Core.antt`): its four ports, its tags and the slice that it asks
-//! first. `specs/Answers.antt` says what each call leaves of it, and `specs/Program.antt` what a program has made. Of
-//! which machine all this is, the type says: a [`SystemNames`], which whoever builds a system gets from [`SystemKeys`]
-//! by picking the configuration and the names of the ledgers.
+//! first. `specs/Answers.antt` says what each call leaves of it, and `specs/Program.antt` what a program has made. The
+//! type says of which machine all this is: a [`SystemNames`], which the caller that builds a system gets from
+//! [`SystemKeys`] by picking the configuration and the names of the ledgers.
 #![tactic(auto)]
 
 pub use blanks::SystemBlanks;

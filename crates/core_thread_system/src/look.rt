@@ -76,7 +76,7 @@ impl<F: MissFile, M: SystemNames> System<F, M> {
 }
 
 impl<'a, F: MissFile, M: SystemNames> SystemLook<'a, F, M> {
-    /// The state. Whoever looks may rely on all that holds of it after every call.
+    /// Returns the state. The caller may rely on all that holds of it after every call.
     pub fn state(&self) -> &SliceState<F>
         ensures { IsShown M.setup (F.bound_by M.setup) self.now.0 result.now }
     {

@@ -5,7 +5,7 @@ use receipt_ledger::SliceNames;
 use std::marker::{Brand, PhantomData};
 
 /// Which machine a system, a set of ports or a core is of, and of which slice each of its parts. It exists in proofs
-/// alone: whoever builds a system picks it.
+/// alone: the caller that builds a system picks it.
 pub trait SystemNames {
     /// The configuration, its counters and initial values included.
     ghost setup: { Config };
@@ -27,7 +27,7 @@ pub trait SystemNames {
         × (Self.S3.setup ≡ setup) };
 }
 
-/// What whoever builds a system picks: the configuration, and the name of each ledger of each slice.
+/// What the caller that builds a system picks: the configuration, and the name of each ledger of each slice.
 pub trait SystemKeys {
     ghost setup: { Config };
 

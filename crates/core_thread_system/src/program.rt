@@ -10,9 +10,9 @@ pub enum Step {
     Access(WordAddr, Op),
     /// Makes turns until no tag is in flight.
     Settle,
-    /// Tries once to give up its copy of a line, whatever is answered.
+    /// Tries once to evict its copy of a line, whatever is returned.
     Evict(LineAddr),
-    /// Makes so many turns.
+    /// Makes this many turns.
     Turns(u8),
 }
 
@@ -29,7 +29,7 @@ pub enum Outcome {
     NotRun,
 }
 
-/// What is told of each request that a run makes: once before it is made, and once after it was answered. No lock is
+/// Is notified of each request that a run makes: once before it is made, and once after it was answered. No lock is
 /// held then. The core's requests count from 1, and the count stops at 2^64 - 1.
 pub trait Gate {
     fn before<R: Wait>(&self, rt: &R, core: CoreId, call: u64);

@@ -33,8 +33,8 @@ enum Halt {
 }
 
 impl<'a, F: MissFile, M: SystemNames> Core<'a, F, M> {
-    /// Runs a program, each access under the lowest tag that is free. The gate is told of each request. A run that would
-    /// need more turns than `limit` ends before the step that needs one more is done.
+    /// Runs a program, each access under the lowest tag that is free. The gate is notified of each request. A run that
+    /// would need more turns than `limit` ends before the step that needs one more is done.
     pub fn run<R: Wait, G: Gate>(
         &mut self,
         rt: &R,
@@ -130,7 +130,7 @@ impl<'a, F: MissFile, M: SystemNames> Core<'a, F, M> {
         }
     }
 
-    // Makes a request, of which the gate is told.
+    // Makes a request, and notifies the gate of it.
     fn call<R: Wait, G: Gate>(
         &mut self,
         rt: &R,
@@ -164,7 +164,7 @@ impl<'a, F: MissFile, M: SystemNames> Core<'a, F, M> {
         Ok(())
     }
 
-    // Makes so many turns.
+    // Makes `count` turns.
     fn turns<R: Wait, G: Gate>(
         &mut self,
         rt: &R,

@@ -70,8 +70,8 @@ macro_rules! at_slice {
 }
 
 impl<F: MissFile, M: SystemNames> System<F, M> {
-    /// A system in which nothing was asked for yet, and the ports of each core, ascending. Where the configuration is
-    /// refused or memory is wanting nothing is left.
+    /// Returns a system in which nothing was requested yet, and the ports of each core, ascending. Where the
+    /// configuration is refused or an allocation fails nothing is left.
     pub fn build(
         alloc: Global,
         config: Config,
@@ -189,8 +189,8 @@ impl<F: MissFile, M: SystemNames> System<F, M> {
         at_slice!(self, slice, |at| at.deliver_next(rt, class))
     }
 
-    /// Whether in a slice no message is in flight, no miss register is held, no line leaves and each reply is handed
-    /// out.
+    /// Whether in a slice no message is in flight, no miss register is held, no write-back is pending and each reply is
+    /// handed out.
     pub fn quiet<R: Wait>(&self, rt: &R, slice: SliceId) -> bool
         requires { slice.0 < M.setup.slices }
     {

@@ -1,4 +1,4 @@
--- Lists that match go on matching where each has one more, and what doesn't match.
+-- Lists that match still match with one more item each; and what doesn't match.
 use Rattle.std.proofs.Common.{ℕ, zero, suc, ◌+◌, ◌/◌, ◌%◌, ◌<◌, Option, Some, None, arith, List, [], ◌∷◌, ◌++◌, length}
 use Rattle.std.proofs.Common.{get_or, take, append_assoc, ap, sym, subst, ◌∙◌}
 use Rattle.std.proofs.lemmas.List.{append-nil, take_more}
@@ -57,7 +57,7 @@ match_at P (x ∷ xs) (value ∷ values) zero d below all = (value, all.0)
 match_at P (x ∷ xs) (value ∷ values) (suc i) d below all =
     match_at P xs values i d (omega (arith, below)) all.1
 
--- a request that no entry is of has no reply
+-- a request without an entry has no reply
 pub no_reply : (slices : List PartsView) (named_request : Option NamedRequest) (value : ℕ) →
     LacksReply slices named_request
     → HasReply slices named_request value → ⊥

@@ -1,4 +1,4 @@
--- Parts that are put together.
+-- Parts that are joined.
 use Rattle.std.proofs.Common.{◌≡◌, ◌⊎◌, ℕ, ◌+◌, List, [], ◌∷◌, ◌++◌, arith, inl, inr, refl, subst, sym, ◌∙◌}
 use Rattle.std.specs.Prelude.{◌≢◌, All}
 use Rattle.std.proofs.lemmas.List.Elements.{All-head}
@@ -45,7 +45,7 @@ merge_next parts part from old mid new is follows misses adds gapless test bound
           (omega arith))
     ]
 
--- rounds that are missing are no part
+-- noting missing rounds adds no part
 pub merge_missed : (parts : List Part) (from : ℕ) (old new : Merged) → IsMergeOf parts old → MissesTo from old new
     → IsMergeOf parts new
 merge_missed parts from old new is misses gapless test bound all =

@@ -92,7 +92,7 @@ module _ (test : LitmusTest) (bound : Bound) (sum seed most : ℕ) where
         (λ done. not_done (sym next.ends ∙ done)));
   }
 
--- what holds of each part holds of the one that is found at a place
+-- what holds of each part holds of the one at a place
 pub known_at : (P : Part → Type 0) (parts : List Part) (i : ℕ) (known : Option (Bor Part))
     → is_some known ≡ ltb i (length parts) → IfSome known (λ b. b.now ≡ get_or parts i b.now) → All P parts
     → IfSome known (λ b. P b.now)

@@ -15,7 +15,7 @@ module _ {X : Type 0} (f : X → List ℕ) (xs : List X) (i : ℕ) where
       ∙ append_assoc old (f (get_or xs i x)) (flat_map f (drop (i + 1) xs))
       ∙ ap (λ (t : List ℕ). old ++ t) (sym (at_drop_more (flat_map f) xs i x below))
 
-  -- .. where the item is a value
+  -- .. if the item is a value
   pub next_values : (d : X) (old new piece : List ℕ) → i < length xs → piece ≡ f (get_or xs i d)
       → new ≡ old ++ piece → new ++ flat_map f (drop (i + 1) xs) ≡ old ++ flat_map f (drop i xs)
   next_values d old new piece below is grows =

@@ -65,7 +65,7 @@ in_parts (round ∷ rounds) more (suc k) values is = elim (in_parts rounds more 
 pub seed_behind : (seed count round : ℕ) → seed_of (seed_of seed count) round ≡ seed_of seed (count + round)
 seed_behind seed count round = omega arith
 
--- what a table of the rounds after those of another makes of it
+-- adding a table of the rounds after those of `old` gives `new`
 abbrev pub Behind : ℕ → (old other new : TableView) → Type 0
 Behind count old other new =
     (rounds more : List (List ℕ)) → count ≡ length rounds → IsTableOf rounds old → IsTableOf more other
@@ -137,7 +137,7 @@ next_place done place share =
     let next : suc place ≡ place + 1 = omega arith in
     omega (arith, suc-mul place share, ap (λ n. n * share) next)
 
--- the status where no round had a forbidden outcome, and where one had
+-- the status if no round had a forbidden outcome, and if one had
 pub told_none : (n : ℕ) → n ≡ 0 → 0 ≡ status_of n
 told_none n none = grind (arith, nat_tests)
 

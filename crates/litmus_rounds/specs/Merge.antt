@@ -1,4 +1,4 @@
--- Parts put together.
+-- Parts joined.
 use Rattle.std.specs.Prelude.{◌≡◌, ◌≢◌, ℕ, ◌+◌, ◌≤◌, ◌<◌, ◌^◌, List, [], ◌++◌, length, All}
 use Rattle.litmus_test.specs.Ended.{ended_behind, round_of}
 use Rattle.litmus_test.specs.Table.{IsTableOf}
@@ -10,8 +10,8 @@ use Rattle.litmus_rounds.specs.declared.part.Part.{Part}
 use Rattle.litmus_test.specs.declared.test.LitmusTest.{LitmusTest}
 use Rattle.mshr_file.specs.Miss.{Bound}
 
--- Parts in order are put together: where no round is missing, and each part is what its rounds are, this is what all rounds
--- come to.
+-- Parts in order are joined: if no round is missing, and each part is what its rounds are, this is the table of all
+-- rounds, and how they ended.
 abbrev pub IsMergeOf : List Part → Merged → Type 0
 IsMergeOf parts merged =
     merged.gaps.items ≡ [] → (test : LitmusTest) (bound : Bound) → All (IsPartOf test bound) parts
@@ -36,7 +36,7 @@ pub record MissesTo (from : ℕ) (old new : Merged) : Type 0 where
   pub none_before : new.gaps.items ≡ [] → old.gaps.items ≡ []
   pub none_here : new.gaps.items ≡ [] → from ≡ old.count
 
--- the rounds of a part are added, if none before them is without an outcome
+-- the rounds of a part are added, if each round before them has an outcome
 pub record AddsRounds (from : ℕ) (part : Part) (old new : Merged) : Type 0 where
   pub seed : new.seed ≡ old.seed
   pub most : new.most ≡ old.most

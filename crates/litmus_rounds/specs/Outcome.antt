@@ -1,4 +1,4 @@
--- A round's outcome is read from the logs of its slices, and from what their words are once they are quiet.
+-- A round's outcome is read from the logs of its slices, and from their words once they are quiet.
 use Rattle.std.specs.Prelude.{◌≡◌, ℕ, ◌/◌, ◌%◌, List, [], ◌∷◌, ◌++◌, length, map, All}
 use Rattle.std.specs.Prelude.{Contains, Option, Some, None}
 use Rattle.std.specs.List.{range_with_len}
@@ -23,7 +23,7 @@ abbrev pub HasReply : List PartsView → Option NamedRequest → ℕ → Type 0
 HasReply slices None reply = ⊥
 HasReply slices (Some named_request) reply = IsReplyOf slices named_request reply
 
--- no entry in the log of its slice is of the request, or there is no request
+-- the log of its slice has no entry of the request, or there is no request
 abbrev pub LacksReply : List PartsView → Option NamedRequest → Type 0
 LacksReply slices None = Unit {0}
 LacksReply slices (Some named_request) =

@@ -6,11 +6,11 @@ use Rattle.litmus_test.specs.declared.outcomes.ended.Ended.{Ended}
 use Rattle.litmus_test.specs.declared.outcomes.ended.Ended.TheVariants as ended_kinds
 use Rattle.litmus_rounds.specs.declared.part.Part.{Part}
 
--- the most moves of a round, where there is a limit
+-- the most moves of a round, if there is a limit
 abbrev pub limit_of : ℕ → List ℕ
 limit_of most = if most == 2 ^ 64 - 1 then codes "none" else decimal most
 
--- a word, and the blank behind it
+-- a word, and the blank after it
 abbrev pub word_of : List ℕ → List ℕ
 word_of word = word ++ codes " "
 
@@ -51,7 +51,7 @@ text_of_part part = head_of part ++ (flat_map (line_of part.seed) part.outcomes.
 abbrev pub text_of_parts : List Part → List ℕ
 text_of_parts parts = flat_map text_of_part parts
 
--- so many rounds have an outcome: all of them, or those before one that has none
+-- `counted` rounds have an outcome: all of them, or those before one that has none
 abbrev pub Counts : (counted count : ℕ) → Ended → Type 0
 Counts counted count ended_kinds.Done = counted ≡ count
 Counts counted count (ended_kinds.Stuck round) = (counted ≡ round) × (round < count)

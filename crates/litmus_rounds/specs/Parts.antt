@@ -1,4 +1,4 @@
--- A walk in parts, and parts put together.
+-- A walk in parts, and parts joined.
 use Rattle.std.specs.Prelude.{◌≡◌, ◌≢◌, ◌⊎◌, ℕ, ◌<◌, ◌≤◌, List, length, take, sum_by, slice_index_or, All, Any, Option}
 use Rattle.std.specs.Io.KnownBytes.{Appends}
 use Rattle.litmus_test.specs.declared.outcomes.ended.Ended.{Ended}
@@ -20,7 +20,7 @@ pub record IsPartWith (sum most seed count : ℕ) (part : Part) : Type 0 where
   pub begins : part.seed ≡ seed
   pub many : part.count ≡ count
 
--- a part of so many rounds is printed, which ended so
+-- a part of `count` rounds is printed, which ended so
 pub record IsPrintedPart (test : LitmusTest) (bound : Bound) (sum count seed most : ℕ) (before after : Option (List ℕ))
     (ended : Ended) : Type 0 where
   pub part : Part
@@ -29,12 +29,12 @@ pub record IsPrintedPart (test : LitmusTest) (bound : Bound) (sum count seed mos
   pub ends : part.ended ≡ ended
   pub printed : Appends before after (text_of_part part)
 
--- how many rounds parts have
+-- the number of rounds of parts
 abbrev pub count_of_parts : List Part → ℕ
 count_of_parts parts = sum_by (λ part. part.count) parts
 
--- parts of so many consecutive rounds, of which the first has the seed: each is what its rounds are, and begins where the
--- one before it ends
+-- parts of `count` consecutive rounds, the first with the seed: each is what its rounds are, and begins where the one
+-- before it ends
 pub record AreParts (test : LitmusTest) (bound : Bound) (sum count seed most : ℕ) (parts : List Part) : Type 0 where
   pub each : All (IsPartOf test bound) parts
   pub with : (k : ℕ) (d : Part) → k < length parts
@@ -42,7 +42,7 @@ pub record AreParts (test : LitmusTest) (bound : Bound) (sum count seed most : �
       (slice_index_or parts k d)
   pub counted : count_of_parts parts ≡ count
 
--- parts of so many rounds are printed
+-- parts of `count` rounds are printed
 pub record ArePrinted (test : LitmusTest) (bound : Bound) (sum count seed most : ℕ) (before after : Option (List ℕ)) :
     Type 0 where
   pub parts : List Part

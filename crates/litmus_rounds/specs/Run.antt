@@ -21,7 +21,7 @@ use Rattle.litmus_test.specs.Form.{text_of_gave_up, text_of_outcomes, text_of_st
 use Rattle.litmus_test.specs.declared.outcomes.form.OutcomeForm.{OutcomeForm}
 use Rattle.slice_core_spec.specs.View.{IsQuiet}
 
--- the values are the outcome of the walk that the seed draws on a new machine of the test, with `most` moves at most, in
+-- the values are the outcome of the walk that the seed draws on a new machine of the test, with at most `most` moves, in
 -- which each thread has done all its steps, and after which all slices are quiet
 pub record IsRound (test : LitmusTest) (bound : Bound) (seed most : ℕ) (values : List ℕ) : Type 0 where
   pub walk : WalkView
@@ -31,11 +31,11 @@ pub record IsRound (test : LitmusTest) (bound : Bound) (seed most : ℕ) (values
   pub quiet : All (λ state. IsQuiet state.view) walk.slices
   pub outcome : IsOutcome test walk.slices values
 
--- the seed of a round, where the first round has this one
+-- the seed of a round, if the first round has this one
 abbrev pub seed_of : ℕ → ℕ → ℕ
 seed_of first round = (first + round) % 2 ^ 64
 
--- the table is that of so many rounds, of which the first has the seed, and each the next
+-- the table is that of `count` rounds: the first has the seed, and each the next
 pub record AreRounds (test : LitmusTest) (bound : Bound) (seed most count : ℕ) (table : TableView) : Type 0 where
   pub rounds : List (List ℕ)
   pub table_of : IsTableOf rounds table
@@ -43,12 +43,11 @@ pub record AreRounds (test : LitmusTest) (bound : Bound) (seed most count : ℕ)
   pub each : (round : ℕ) (values : List ℕ) → slice_get rounds round ≡ Some values
       → IsRound test bound (seed_of seed round) most values
 
--- the exit status, where so many rounds had a forbidden outcome
+-- the exit status, if `count` rounds had a forbidden outcome
 abbrev pub status_of : ℕ → ℕ
 status_of count = if nat_eq count 0 then 0 else 1
 
--- the outcomes of so many rounds are printed, of which the first has the seed; status 1 says that one had a forbidden
--- outcome
+-- the outcomes of `count` rounds are printed, the first with the seed; status 1 means that one had a forbidden outcome
 pub record PrintsRounds (test : LitmusTest) (bound : Bound) (form : OutcomeForm) (count seed most status : ℕ)
     (before after : Option (List ℕ)) : Type 0 where
   pub table : TableView
@@ -56,7 +55,7 @@ pub record PrintsRounds (test : LitmusTest) (bound : Bound) (form : OutcomeForm)
   pub printed : Appends before after (text_of_outcomes form test (Some seed) table.rows rounds.rounds)
   pub told : status ≡ status_of (count_by (is_forbidden test) rounds.rounds)
 
--- The walk that the seed draws isn't over where no move may come next, or is over and has no outcome: a reply or a
+-- The walk that the seed draws isn't over and no move may come next, or it is over and has no outcome: a reply or a
 -- counter's value is missing.
 pub record IsStuck (test : LitmusTest) (bound : Bound) (seed most : ℕ) : Type 0 where
   pub walk : WalkView
@@ -71,7 +70,7 @@ pub record GivesUp (test : LitmusTest) (bound : Bound) (seed most : ℕ) : Type 
   pub walked : IsWalkOf test bound walk
   pub drawn : IsDrawn test bound (lines_of test) seed most ends.GaveUp walk
 
--- All of so many rounds ended well, with this table, or those before one did, which is stuck or is given up.
+-- All `count` rounds ended well, with this table; or those before one that is stuck or is given up did.
 abbrev pub HaveEnded : LitmusTest → Bound → (seed most count : ℕ) → TableView → Ended → Type 0
 HaveEnded test bound seed most count table ended_kinds.Done = AreRounds test bound seed most count table
 HaveEnded test bound seed most count table (ended_kinds.Stuck round) =
@@ -79,21 +78,21 @@ HaveEnded test bound seed most count table (ended_kinds.Stuck round) =
 HaveEnded test bound seed most count table (ended_kinds.GaveUp round) =
     (round < count) × AreRounds test bound seed most round table × GivesUp test bound (seed_of seed round) most
 
--- a stretch of so many rounds, of which the first has the seed
+-- a stretch of `count` rounds, the first with the seed
 abbrev pub IsStretch : LitmusTest → Bound → (seed most count : ℕ) → Stretch → Type 0
 IsStretch test bound seed most count stretch = HaveEnded test bound seed most count stretch.outcomes stretch.ended
 
--- how many rounds a batch has
+-- the number of rounds of a batch
 abbrev pub rounds_of : Batch → ℕ
 rounds_of batch = batch.jobs * batch.share
 
--- the stretches of a batch, of which the first begins with the seed, unless memory ran out
+-- the stretches of a batch, the first from the seed on, unless memory ran out
 abbrev pub AreStretches : LitmusTest → Bound → (seed most : ℕ) → Batch → List (Result Stretch AllocError) → Type 0
 AreStretches test bound seed most batch made =
     (place : ℕ) (d : Result Stretch AllocError) → place < batch.jobs
     → IfOk (slice_index_or made place d) (IsStretch test bound (seed_of seed (place * batch.share)) most batch.share)
 
--- one of so many rounds is told to be stuck, which it is, and those before it ended well
+-- one of `count` rounds is reported as stuck, which it is, and those before it ended well
 pub record PrintsStuck (test : LitmusTest) (bound : Bound) (form : OutcomeForm) (count seed most status : ℕ)
     (before after : Option (List ℕ)) : Type 0 where
   pub round : ℕ
@@ -104,7 +103,7 @@ pub record PrintsStuck (test : LitmusTest) (bound : Bound) (form : OutcomeForm) 
   pub printed : Appends before after (text_of_stuck form round)
   pub told : status ≡ 1
 
--- .. or to be given up, after as many moves as a round may make
+-- .. or as given up, after `most` moves
 pub record PrintsGaveUp (test : LitmusTest) (bound : Bound) (form : OutcomeForm) (count seed most status : ℕ)
     (before after : Option (List ℕ)) : Type 0 where
   pub round : ℕ
@@ -115,7 +114,7 @@ pub record PrintsGaveUp (test : LitmusTest) (bound : Bound) (form : OutcomeForm)
   pub printed : Appends before after (text_of_gave_up form round most)
   pub told : status ≡ 1
 
--- what so many rounds print: how often each outcome came, or which round is stuck or is given up
+-- what `count` rounds print: how often each outcome came, or which round is stuck or is given up
 abbrev pub PrintsWalks : LitmusTest → Bound → OutcomeForm → (count seed most status : ℕ)
     → (before after : Option (List ℕ)) → Type 0
 PrintsWalks test bound form count seed most status before after =

@@ -1,4 +1,4 @@
-//! Rounds side by side: each job walks a stretch of consecutive rounds, and the stretches are put together in their order.
+//! Rounds in parallel: each job walks a stretch of consecutive rounds, and the stretches are joined in their order.
 ghost use Rattle.std.specs.Prelude.{◌≡◌, ℕ, ◌+◌, ◌*◌, ◌<◌, ◌≤◌, ◌^◌, [], IfOk, length};
 ghost use Rattle.litmus_test.specs.Ended.{round_of};
 ghost use Rattle.litmus_test.specs.Table.{IsTableOf};
@@ -17,13 +17,13 @@ use std::alloc::{AllocError, Global};
 use std::thread;
 use std::thread::Threads;
 
-/// How many rounds each job walks at first: so few that a short walk is soon told of.
+/// The number of rounds that each job walks at first: few, so that a short walk soon reports progress.
 const FIRST_SHARE: u64 = 16;
 
-/// The most that it walks before it is joined: to start a thread takes as long as some rounds.
+/// The most that it walks before it is joined: starting a thread takes as long as some rounds.
 const MOST_SHARE: u64 = 4096;
 
-/// The rounds that are walked at once.
+/// The rounds that are walked in parallel.
 #[derive(Clone, Copy)]
 struct Batch {
     jobs: usize,
@@ -40,7 +40,7 @@ impl Batch {
     }
 }
 
-/// Adds the outcomes of so many rounds, up to one that has none, in so many jobs.
+/// Adds the outcomes of `rounds` rounds, up to one that has none, in `jobs` jobs.
 pub(crate) fn walk_batches<R: Threads + Sync, P: Progress>(
     alloc: Global,
     rt: &R,
@@ -117,7 +117,7 @@ fn walk_on<R: Threads + Sync, P: Progress>(
     Ok(Ended::Done)
 }
 
-// The next rounds of those that are left: as many for each job, and no more than its share.
+// Returns the next batch of the remaining rounds: the same number for each job, and no more than its share.
 fn batch_of(left: u64, jobs: usize, share: u64) -> Batch
     requires left { 0 < left }
     requires jobs { 0 < jobs }
@@ -139,7 +139,7 @@ fn batch_of(left: u64, jobs: usize, share: u64) -> Batch
     }
 }
 
-// Tells of the rounds of a batch.
+// Reports the rounds of a batch.
 fn tell<P: Progress>(progress: &mut P, done: u64, batch: Batch, rounds: u64)
     requires { done + rounds_of batch ≤ rounds }
 {
@@ -180,7 +180,7 @@ fn walk_batch<R: Threads + Sync>(
     Ok(Ended::Done)
 }
 
-// Walks the stretches of a batch, each in a job, of which the first begins with this seed.
+// Walks the stretches of a batch, each in a job. The first begins with this seed.
 fn walk_stretches<R: Threads + Sync>(
     alloc: Global,
     rt: &R,

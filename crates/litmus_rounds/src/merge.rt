@@ -1,4 +1,4 @@
-//! Parts put together: the table of all their rounds, each counted once.
+//! Joins parts: the table of all their rounds, each counted once.
 ghost use Rattle.std.specs.Prelude.{◌≡◌, ◌+◌, ◌≤◌, ◌<◌, ◌^◌, List, [], ◌∷◌, ◌++◌, All, IfErr, IfOk, IsTrue, OnOk};
 ghost use Rattle.std.specs.Prelude.{IsPermutation, map};
 ghost use Rattle.litmus_test.specs.Ended.{round_of};
@@ -26,7 +26,7 @@ struct Filed {
     part: Part,
 }
 
-/// The parts that were read so far.
+/// The parts read so far.
 #[derive(Debug, Drop)]
 pub struct Parts {
     alloc: Global,
@@ -37,7 +37,7 @@ pub struct Parts {
 }
 
 impl Parts {
-    /// No part yet, of the test of this sum.
+    /// Creates an empty set of parts, of the test of this sum.
     pub fn new(alloc: Global, sum: u64) -> Self {
         Parts {
             alloc,
@@ -47,7 +47,7 @@ impl Parts {
         }
     }
 
-    /// Adds the parts of a text, which is that of the file of this number.
+    /// Adds the parts of the text of the file of this number.
     pub fn read(&mut self, file: usize, text: &[u8]) -> Result<(), PartFault> {
         let found = read_parts(self.alloc, self.sum, file, text)?;
         let Found { parts, cut, .. } = found;
@@ -60,10 +60,10 @@ impl Parts {
         Ok(())
     }
 
-    /// Puts all parts together, in the order of their seeds. They are refused where one has another limit than the first,
-    /// or where a round is counted twice.
+    /// Joins all parts, in the order of their seeds. They are refused if one has another limit than the first, or if a
+    /// round is counted twice.
     pub fn merge(&mut self) -> Result<Merged, PartFault>
-        // Where no round is missing this is what one walk of all rounds comes to.
+        // If no round is missing this equals one walk of all rounds.
         ensures { IfOk result (λ merged. merged.gaps.items ≡ [] → (test : LitmusTest) (bound : Bound)
             → All (λ filed. IsPartOf test bound filed.part) self.old.filed.items
             → HaveEnded test bound merged.seed merged.most merged.count merged.outcomes merged.ended) }
@@ -80,7 +80,7 @@ impl Parts {
 pub struct Merged {
     seed: u64,
     most: u64,
-    /// How many rounds there are from the first to the last, those that are missing included.
+    /// The number of rounds from the first to the last, including those that are missing.
     count: u64,
     outcomes: Outcomes,
     ended: Ended,
@@ -88,7 +88,7 @@ pub struct Merged {
 }
 
 impl Merged {
-    // No round yet.
+    // Creates the join of no parts.
     fn new(alloc: Global, seed: u64, most: u64) -> Self
         ensures { IsMergeOf [] result }
     {
@@ -102,7 +102,7 @@ impl Merged {
         }
     }
 
-    /// The rounds that are missing.
+    /// Returns the rounds that are missing.
     pub fn gaps(&self) -> &[Gap]
         ensures { result.now ≡ self.now.gaps.items }
     {
@@ -120,7 +120,7 @@ impl Merged {
         Ok(())
     }
 
-    // The round with which a part begins, if it may come next.
+    // Returns the first round of a part, if it may come next.
     fn place_of(&self, filed: &Filed, other: usize) -> Result<u64, PartFault>
         ensures { IfOk result (MayFollow self.now filed.now.part) }
     {
@@ -145,7 +145,7 @@ impl Merged {
         Ok(from)
     }
 
-    // Whether a part has the outcomes that it says, and its rounds can be counted.
+    // Whether a part has all the outcomes that it claims, and its rounds can be counted.
     fn may_count(&self, part: &Part) -> bool
         ensures { IsTrue result → (self.now.seed ≤ part.now.seed) × (part.now.seed + part.now.count < 2 ^ 64)
             × (self.now.outcomes.rounds + part.now.outcomes.rounds < 2 ^ 64)
@@ -173,7 +173,7 @@ impl Merged {
         Ok(())
     }
 
-    // Adds the rounds of a part, if none before them is without an outcome.
+    // Adds the rounds of a part, if each round before them has an outcome.
     fn add_rounds(&mut self, from: u64, part: &Part) -> Result<(), AllocError>
         requires fits { from + part.now.count < 2 ^ 64 }
         requires rounds { self.old.outcomes.rounds + part.now.outcomes.rounds < 2 ^ 64 }
@@ -188,7 +188,7 @@ impl Merged {
         Ok(())
     }
 
-    // Notes the rounds after the last that parts had which are cut off.
+    // Notes as missing the rounds of cut-off parts after the last round that was added.
     fn miss_behind(&mut self, cut: &[Gap]) -> Result<(), AllocError>
         ensures { OnOk result ((parts : List Part) → IsMergeOf parts self.old → IsMergeOf parts self.new) }
     {
@@ -197,7 +197,7 @@ impl Merged {
     }
 }
 
-// How many rounds there are from this seed to the last of these, or so many.
+// Returns the number of rounds from `seed` to the last of the gaps, or `count` if that is more.
 fn end_of(seed: u64, count: u64, cut: &[Gap]) -> u64
     ensures { count ≤ result }
 {
@@ -210,7 +210,7 @@ fn end_of(seed: u64, count: u64, cut: &[Gap]) -> u64
     end
 }
 
-// Puts parts in the order of their seeds.
+// Sorts parts by their seeds.
 fn sort(alloc: Global, filed: &mut Vec<Filed>) -> Result<(), AllocError>
     ensures { OnOk result (IsPermutation filed.old.items filed.new.items) }
 {
@@ -219,7 +219,7 @@ fn sort(alloc: Global, filed: &mut Vec<Filed>) -> Result<(), AllocError>
         .sort_by_key(alloc, |filed: &Filed| filed.part.seed)
 }
 
-// Puts parts together that are in order.
+// Joins parts that are in order.
 fn merge_sorted(alloc: Global, filed: &[Filed]) -> Result<Merged, PartFault>
     ensures { IfOk result (IsMergeOf (map (λ filed. filed.part) filed.now)) }
 {

@@ -27,7 +27,7 @@ pub(crate) fn read_outcome(
     Ok(read)
 }
 
-// The replies that are sought, in order.
+// Adds the replies of the named requests, in order.
 fn read_replies(
     named_requests: &[Option<NamedRequest>],
     recorded: &Recorded,

@@ -7,7 +7,7 @@ use thiserror::Error;
 /// The version of the format of parts.
 pub const FORMAT: &[u8] = b"1";
 
-/// The version of the program whose walks these are: another's may draw other rounds.
+/// The version of the program whose walks these are: another version may draw other rounds.
 pub const VERSION: &[u8] = b"0.3.0";
 
 /// The outcomes of consecutive rounds.
@@ -19,7 +19,7 @@ pub struct Part {
     pub most: u64,
     /// The seed of the first round.
     pub seed: u64,
-    /// How many rounds there are, those after one that has no outcome included.
+    /// The number of rounds, including those after one that has no outcome.
     pub count: u64,
     /// .. of the rounds before it.
     pub outcomes: Outcomes,

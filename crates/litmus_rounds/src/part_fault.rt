@@ -3,7 +3,7 @@ ghost use Rattle.std.specs.Prelude.{◌≡◌};
 use std::alloc::{AllocError, AllocFailed};
 use thiserror::Error;
 
-/// Why parts can't be read or put together. A file is named by the number under which its text was read.
+/// Why parts can't be read or joined. A file is named by the number under which its text was read.
 #[derive(Clone, Copy, Debug, PartialEq, Eq, Error)]
 pub enum PartFault {
     #[error("line {line}: not a line of a part")]
@@ -52,7 +52,7 @@ pub enum PartFault {
 }
 
 impl PartFault {
-    /// The file that it is in.
+    /// Returns the file that it is in.
     pub const fn file(&self) -> Option<usize> {
         match self {
             PartFault::NotAPart { file, .. }
@@ -66,7 +66,7 @@ impl PartFault {
         }
     }
 
-    /// The other file that it speaks of: its name follows the reason.
+    /// Returns the other file that it names: its name follows the reason.
     pub const fn other(&self) -> Option<usize> {
         match self {
             PartFault::OtherLimit { other, .. } | PartFault::Twice { other, .. } => Some(*other),
@@ -74,7 +74,7 @@ impl PartFault {
         }
     }
 
-    /// The exit status of a program that stops at this fault.
+    /// Returns the exit status of a program that stops at this fault.
     pub const fn status(&self) -> u8 {
         match self {
             PartFault::NoMemory => 3,

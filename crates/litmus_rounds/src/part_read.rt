@@ -1,5 +1,4 @@
-//! Reading the text of parts. Lines are read for what they say; that they are spelled as a part's are is then found by
-//! writing the parts again.
+//! Reads the text of parts. Lines are read for what they say; their spelling is then checked by writing the parts again.
 ghost use Rattle.std.specs.Prelude.{◌≡◌, ◌++◌, [], List, ℕ, IfOk, IfSome, OnOk, false};
 ghost use Rattle.litmus_rounds.specs.PartForm.{text_of_parts};
 
@@ -27,11 +26,11 @@ struct Reader {
     sum: u64,
     file: usize,
     parts: Vec<Part>,
-    /// The part whose last line is still to come.
+    /// The part whose last line was not read yet.
     open: Option<Part>,
 }
 
-/// Reads the parts of a text, which are all of the test of this sum. The last one may be cut off at the end.
+/// Reads the parts of a text, all of the test of this sum. The last one may be cut off at the end.
 pub fn read_parts(alloc: Global, sum: u64, file: usize, text: &[u8]) -> Result<Found, PartFault>
     // What is read is spelled so, up to a part that is cut off.
     ensures read { IfOk result (λ found. (rest : List ℕ) × (text.now ≡ text_of_parts found.parts.items ++ rest)
@@ -49,7 +48,7 @@ pub fn read_parts(alloc: Global, sum: u64, file: usize, text: &[u8]) -> Result<F
     found_in(alloc, file, text, parts, cut_of(&open))
 }
 
-// The rounds of a part whose last line is missing.
+// Returns the rounds of a part whose last line is missing.
 fn cut_of(open: &Option<Part>) -> Option<Gap> {
     match open {
         Some(part) => Some(Gap {
@@ -81,7 +80,7 @@ fn found_in(
     }
 }
 
-// What follows the text of the parts.
+// Returns what follows the text of the parts.
 fn text_behind<'a>(
     alloc: Global,
     text: &'a [u8],
@@ -215,7 +214,7 @@ fn limit_in(word: &[u8]) -> Option<u64> {
     }
 }
 
-// How the rounds of a part ended, which its last line says.
+// Returns how the rounds of a part ended, by its last line.
 fn end_of(words: &[&[u8]]) -> Option<Ended> {
     match words {
         [end] if is_same(end, b"end") => Some(Ended::Done),
@@ -229,7 +228,7 @@ fn end_of(words: &[&[u8]]) -> Option<Ended> {
     }
 }
 
-// Adds an outcome of a part, where the line says one.
+// Adds an outcome of a part, if the line is one.
 fn add_outcome(alloc: Global, part: &mut Part, words: &[&[u8]]) -> Result<bool, AllocError> {
     let [_, rounds, _, seed, _, values @ ..] = words else {
         return Ok(false);

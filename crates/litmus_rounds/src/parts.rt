@@ -16,12 +16,12 @@ use std::alloc::{AllocError, Global};
 use std::io::Write;
 use std::thread::Threads;
 
-/// How many rounds a part has: about a minute's worth at most, which is lost where a walk is cut off.
+/// The number of rounds of a part: at most about a minute of work, which is lost if a walk is cut off.
 pub const PART_ROUNDS: u64 = 100_000;
 
-/// Walks through a litmus test so many times, and prints the outcomes in parts, each of [`PART_ROUNDS`] rounds or of those
-/// that are left, as soon as its rounds are over. The part with a round that is stuck or is given up is the last. Parts
-/// that are known already, in their order from the first on, are printed and not walked.
+/// Walks through a litmus test `rounds` times, and prints the outcomes in parts, each of [`PART_ROUNDS`] rounds or those
+/// that remain, as soon as its rounds are over. The part with a round that is stuck or is given up is the last. Parts
+/// that are already known, in their order from the first on, are printed and not walked.
 pub fn print_parts<R: Threads + Sync, W: Write, P: Progress>(
     alloc: Global,
     rt: &R,
@@ -55,8 +55,8 @@ pub fn print_parts<R: Threads + Sync, W: Write, P: Progress>(
     Ok(())
 }
 
-/// The seed of the first of the parts that a walk of these rounds doesn't begin with: none where it can go on after
-/// them.
+/// Returns the seed of the first known part that isn't the next part of a walk of these rounds, or none if the walk
+/// can go on after them.
 pub fn first_other(known: &[Part], sum: u64, rounds: u64, seed: u64, most: u64) -> Option<u64>
     ensures none { known.now ≡ [] → result ≡ None }
 {
@@ -70,14 +70,14 @@ pub fn first_other(known: &[Part], sum: u64, rounds: u64, seed: u64, most: u64) 
     None
 }
 
-// Whether a part is one of so many rounds from this seed on.
+// Whether a part is one of `count` rounds from this seed on.
 fn is_with(part: &Part, sum: u64, most: u64, seed: u64, count: u64) -> bool
     ensures { IsTrue result → IsPartWith sum most seed count part.now }
 {
     part.sum == sum && part.most == most && part.seed == seed && part.count == count
 }
 
-// Prints the part of these rounds, which are walked where it isn't the known one. Returns how they ended.
+// Prints the part of these rounds, which are walked unless the part is known. Returns how they ended.
 fn print_next<R: Threads + Sync, W: Write>(
     alloc: Global,
     rt: &R,

@@ -19,7 +19,7 @@ pub(crate) struct Stretch {
     pub ended: Ended,
 }
 
-/// Walks so many rounds, of which the first has this seed.
+/// Walks `count` rounds. The first has this seed.
 pub(crate) fn walk_stretch(
     alloc: Global,
     test: &LitmusTest<'_>,
@@ -47,7 +47,7 @@ pub(crate) fn walk_stretch(
     Ok(Stretch { outcomes, ended })
 }
 
-// Adds the outcomes of so many rounds, up to one that has none.
+// Adds the outcomes of `count` rounds, up to one that has none.
 fn walk_rounds(
     alloc: Global,
     test: &LitmusTest<'_>,
@@ -79,7 +79,7 @@ fn walk_rounds(
     Ok(Ended::Done)
 }
 
-// Adds a walk's outcome, where it has one.
+// Adds a walk's outcome, if it has one.
 fn add_outcome(
     test: &LitmusTest<'_>,
     named_requests: &[Option<NamedRequest>],

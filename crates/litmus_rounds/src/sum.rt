@@ -1,7 +1,7 @@
 ghost use Rattle.std.specs.Prelude.{◌≡◌};
 ghost use Rattle.litmus_rounds.specs.Sum.{sum_of};
 
-/// The sum by which the parts of one test are known: the 64-bit FNV-1a hash of its text.
+/// Returns the sum that identifies the parts of a test: the 64-bit FNV-1a hash of its text.
 pub fn sum_of(text: &[u8]) -> u64
     ensures { result ≡ sum_of text.now }
 {

@@ -1,4 +1,4 @@
--- What a state answers and leaves is that it answered the call.
+-- A state's answer to a call, and the state after it, show that it answered the call.
 use Rattle.std.proofs.Common.{◌≡◌, subst}
 use Rattle.std.specs.Prelude.{Option, Result}
 use Rattle.address_map.specs.declared.address.CoreId.{CoreId}

@@ -1,4 +1,4 @@
--- The lines of a trace, in the pieces in which they are put together.
+-- The lines of a trace, in the pieces from which they are built.
 use Rattle.std.proofs.Common.{◌≡◌, ℕ, List, [], ◌∷◌, ◌++◌, codes, decimal, append_assoc, refl, ap, ◌∙◌}
 use Rattle.address_map.specs.declared.request.Op.{Op}
 use Rattle.address_map.specs.declared.request.Op.TheVariants as ops

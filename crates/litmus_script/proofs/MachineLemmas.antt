@@ -1,4 +1,4 @@
--- A machine that is built has its slices in order, and what they have counted is alike.
+-- A machine that is built has its slices in order, and their counters are alike.
 use Rattle.std.proofs.Common.{◌≡◌, ℕ, ◌+◌, ◌<◌, ◌≤◌, List, [], ◌∷◌, ◌++◌, length, get_or, sym, ap, below_more, ◌∙◌}
 use Rattle.std.proofs.Common.{subst, arith, inl, inr, length-append}
 use Rattle.std.proofs.lemmas.List.Elements.{All-from_get_or, All-head, All-nil, All-tail, All-weaker}
@@ -53,7 +53,7 @@ like : (config : Config) (first other : StatsView) → IsCountOf config first
 like config first other one two =
     record { cores = two.cores ∙ sym one.cores; exclusive = two.exclusive ∙ sym one.exclusive }
 
--- counts of one machine are alike
+-- counters of one machine are alike
 pub are_alike : (config : Config) (all : List StatsView) → 1 ≤ length all → All (IsCountOf config) all → AreAlike all
 are_alike config [] some each = absurd (omega (arith, some))
 are_alike config (first ∷ rest) some each =

@@ -5,7 +5,7 @@ use Rattle.litmus_text.specs.declared.command.Command.{Command}
 use Rattle.litmus_text.specs.declared.fault.TextFault.{TextFault}
 use Rattle.litmus_script.specs.Play.{PlaysAll, PlaysOne, PlaysUpTo}
 
--- What a player does shows as what its view does, where this is so of each command.
+-- If each command of a player acts on the player's view, then so does a whole play.
 module _ {P Q : Type 0} (view : P → Q) (Inv : P → Type 0)
     (plays : P → List ℕ → Command → Option (List ℕ) → Option (List ℕ) → P → Type 0)
     (shows : Q → List ℕ → Command → Option (List ℕ) → Option (List ℕ) → Q → Type 0)

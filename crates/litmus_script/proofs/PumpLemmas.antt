@@ -16,7 +16,7 @@ use Rattle.slice_answer.specs.declared.answer.Delivery.TheVariants as deliveries
 use Rattle.slice_answer.specs.declared.answer.Delivery.{Delivery}
 use Rattle.slice_queues.specs.declared.channel.Pick.{Pick}
 
--- what a round comes to with one answer more
+-- the result of a round with one more answer
 round_by : (moved empty : Bool) (answer : Delivery Pick)
     → (let round : Round = cond moved rounds.Moved (cond empty rounds.Empty rounds.Stuck) in
     round_after round answer ≡ cond (moved || (is_moved answer || false)) rounds.Moved
@@ -60,7 +60,7 @@ of_stuck true empty is = cc
 of_stuck false true is = cc
 of_stuck false false is = (refl, refl)
 
--- so many rounds and one more are within the calls
+-- `before + 1` rounds are within the calls
 within : (slices calls before : ℕ) → before < calls / slices → (before + 1) * slices ≤ calls
 within slices calls before few =
     let more : before + 1 ≤ calls / slices = omega (arith, few) in
@@ -150,7 +150,7 @@ module _ {D : Type 0} (tells : D → ℕ → Delivery Pick → Option (List ℕ)
         });
       }
 
-  -- a pump that ends with the calls that make no whole round
+  -- a pump that ends with calls too few for a whole round
   pub pumps_out : (slices calls : ℕ) (round : Round) (a b c : D) (x y z : Option (List ℕ)) → 0 < slices
       → AreRounds tells slices (calls / slices) rounds.Moved a b x y → ComesTo tells (calls % slices) round b c y z
       → Pumps tells slices calls pumps.Left a c x z
@@ -168,7 +168,7 @@ module _ {D : Type 0} (tells : D → ℕ → Delivery Pick → Option (List ℕ)
     });
   }
 
--- What a pump does to a machine shows as what it does to the machine's view, where this is so of each delivery.
+-- If each delivery acts on the machine's view, then so does a whole pump.
 module _ {D V : Type 0} (view : D → V) (Inv : D → Type 0)
     (tells : D → ℕ → Delivery Pick → Option (List ℕ) → Option (List ℕ) → D → Type 0)
     (shows : V → ℕ → Delivery Pick → Option (List ℕ) → Option (List ℕ) → V → Type 0)

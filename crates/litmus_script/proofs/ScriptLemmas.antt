@@ -37,7 +37,7 @@ refused_wrong : (settings : Settings) (left : List (ℕ × List (List ℕ))) (fa
 refused_wrong settings [] fault others refused = refused
 refused_wrong settings (s ∷ left) fault others refused = inr (others, refused)
 
--- the machine that was configured is
+-- the machine that was configured is what is wrong
 pub not_configured_machine : (all left : List (ℕ × List (List ℕ))) (settings : Settings) (fault : TextFault)
     → IsConfigured all settings left → BeginOtherwise left → IsRefused settings.config fault → IsNotConfigured all fault
 not_configured_machine all left settings fault so_far others refused =
@@ -52,6 +52,6 @@ refused_from : (c : Config) (e : ConfigError) (fault : Option ConfigError) (whol
 refused_from c e None whole is of = cc
 refused_from c e (Some f) whole is of = cc
 
--- a configuration that is refused has this field at fault
+-- a configuration that is refused has this field as its first fault
 pub refused : (c : Config) (e : ConfigError) → Err e ≡ checked_of c → first_fault c ≡ Some e
 refused c e h = refused_from c e (first_fault c) (checked_of c) (sym h) refl

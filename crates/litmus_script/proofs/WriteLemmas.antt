@@ -1,4 +1,4 @@
--- What holds of a text that was written holds where the write came to no fault.
+-- What holds of a text that was written holds if the write succeeded.
 use Rattle.std.specs.Prelude.{◌≡◌, ◌↔◌, refl, false, true, IsOk, OnOk, Result, Ok, Err}
 
 pub on_written : {A B C D : Type 0} (wrote : Result A B) (came : Result C D) {P Q : Type 0} → (IsOk came ↔ IsOk wrote)
@@ -8,7 +8,7 @@ on_written (Err e) (Ok y) both goes holds = absurd (let no : false ≡ true = bo
 on_written (Ok x) (Err f) both goes holds = tt
 on_written (Err e) (Err f) both goes holds = tt
 
--- what holds where a result is fine, holds of it
+-- what holds if a result is Ok holds of it
 pub on_ok_from : {T E P : Type 0} (r : Result T E) → (IsOk r → P) → OnOk r P
 on_ok_from (Ok x) h = h refl
 on_ok_from (Err e) h = tt

@@ -15,7 +15,7 @@ text_of_issued (issued_kinds.Pending seq) = codes "pending " ++ decimal seq
 text_of_issued (issued_kinds.Stall stall) = codes "stall " ++ text_of_stall stall
 text_of_issued (issued_kinds.Refused refused) = codes "refused " ++ text_of_refused refused
 
--- a reply that is handed out, or that there is none
+-- a reply that is delivered to the core, or that there is none
 abbrev pub text_of_handed : Option Numbered → List ℕ
 text_of_handed (Some given) =
     codes "receipt " ++ decimal given.number ++ codes " tag " ++ decimal given.entry.tag ++ codes " reply "
@@ -27,7 +27,7 @@ abbrev pub text_of_word : Option ℕ → List ℕ
 text_of_word (Some value) = decimal value
 text_of_word None = codes "not quiet"
 
--- what is left after a pump
+-- what remains after a pump
 abbrev pub text_of_pumped : Pumped → List ℕ
 text_of_pumped pumps.Empty = codes "empty"
 text_of_pumped pumps.Left = codes "left"

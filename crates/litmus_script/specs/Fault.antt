@@ -13,14 +13,14 @@ abbrev pub BeginsAsConfig : List (List ℕ) → Type 0
 BeginsAsConfig [] = ⊥
 BeginsAsConfig (name ∷ words) = IsFieldName name
 
--- What is wrong with words after the configuration: with those that begin as a line that configures their form, or
--- else their place, and with others what is wrong with them as a command.
+-- What is wrong with words after the configuration. If they begin as a line that configures it is their form, or else
+-- their place; otherwise it is what is wrong with them as a command.
 abbrev pub IsFaultBehind : Config → List (List ℕ) → LineFault → Type 0
 IsFaultBehind config words fault =
     (BeginsAsConfig words × IsLateFault words fault) ⊎ ((¬ BeginsAsConfig words) × IsFaultOfCommand config words fault)
 
--- Why the statement of this number isn't played: it has a fault of this kind, and nothing is written for it. Or there
--- is no memory, or the output can't be written.
+-- Why the statement of this number isn't played: it has a fault of this kind, and nothing is written for it; or memory
+-- ran out; or the output can't be written.
 abbrev pub IsNotPlayed : (LineFault → Type 0) → ℕ → Option (List ℕ) → Option (List ℕ) → TextFault → Type 0
 IsNotPlayed Wrong number before after (text_faults.Line n fault) = (n ≡ number) × Wrong fault × (after ≡ before)
 IsNotPlayed Wrong number before after (text_faults.Config error) = ⊥

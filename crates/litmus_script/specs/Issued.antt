@@ -1,4 +1,4 @@
--- What became of an access, as its slice answered it.
+-- What became of an access, by its slice's answer.
 use Rattle.std.specs.Prelude.{◌≡◌, ◌≢◌, ℕ, List, slice_index_or, Result, Ok, Err}
 use Rattle.address_map.specs.declared.address.CoreId.{CoreId}
 use Rattle.address_map.specs.declared.request.Op.TheVariants as ops
@@ -22,12 +22,12 @@ answer_of (issued_kinds.Pending seq) = Ok (issues.Pending seq)
 answer_of (issued_kinds.Stall stall) = Ok (issues.Stall stall)
 answer_of (issued_kinds.Refused refused) = Err refused
 
--- what stands where there is no entry
+-- a default where there is no entry
 abbrev pub no_entry : Entry
 no_entry =
     record { op = ops.Load; word = record { 0 = 0 }; seq = 0; reply = 0; since = 0; core = record { 0 = 0 }; tag = 0 }
 
--- an access that is done says the reply of its entry, and want of memory is not said
+-- an access that is done has the reply of its entry, and running out of memory is not one of the outcomes
 abbrev pub IsSaid : Issued → List Entry → Type 0
 IsSaid (issued_kinds.Done number reply) log = reply ≡ (slice_index_or log number no_entry).reply
 IsSaid (issued_kinds.Refused refused) log = refused ≢ refusals.Memory

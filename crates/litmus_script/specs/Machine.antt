@@ -37,7 +37,7 @@ pub record IsMachine (config : Config) (slices : List PartsView) : Type 0 where
   pub count : length slices ≡ config.slices
   pub each : AreSlicesOf config slices
 
--- each state is that of the slice at its place, with miss files bounded like this, in which nothing was asked for yet
+-- each state is that of the slice at its place, with miss files of this bound, and no request so far
 abbrev pub AreNew : Config → Bound → List PartsView → Type 0
 AreNew config bound slices =
     (i : ℕ) (d : PartsView) → i < length slices → IsNew config bound (record { 0 = i }) (slice_index_or slices i d)
@@ -47,11 +47,11 @@ pub record IsNewMachine (config : Config) (bound : Bound) (slices : List PartsVi
   pub count : length slices ≡ config.slices
   pub each : AreNew config bound slices
 
--- the state answered this call in this way, and left the other state
+-- the old state gave this answer to the call, and became the new state
 pub record Answers (call : Call) (answer : CallAnswer) (old new : PartsView) : Type 0 where
   pub made : AfterCall old call answer new
 
--- one of the slices went from the one state to the other in this way, and the others are as they were
+-- this slice changed as `Goes` says, and the others are unchanged
 pub record OneSlice (slice : ℕ) (Goes : PartsView → PartsView → Type 0) (old new : List PartsView) : Type 0 where
   pub before : PartsView
   pub after : PartsView
@@ -72,20 +72,20 @@ pub record IsMade (slice : ℕ) (call : Call) (old new : List PartsView) : Type 
 abbrev pub log_at : List PartsView → ℕ → List Entry
 log_at slices slice = option_map_or (λ state. state.view.log) (slice_get slices slice) []
 
--- the values that words of the slice begin with, where they begin with one of their own
+-- the initial values of the slice's words that have one of their own
 abbrev pub init_at : List PartsView → ℕ → List (WordAddr × ℕ)
 init_at slices slice = option_map_or (λ state. state.view.init) (slice_get slices slice) []
 
--- what the slices have counted, in order
+-- the counters of the slices, in order
 abbrev pub counts_in : List PartsView → List StatsView
 counts_in slices = map (λ state. state.stats) slices
 
--- what a slice shows of its word: where it is quiet, the word's value after the whole log, and else nothing
+-- what a slice shows of its word: the word's value after the whole log if it is quiet, or else nothing
 abbrev pub ShowsWord : View → WordAddr → Option ℕ → Type 0
 ShowsWord v word (Some shown) = IsQuiet v × (shown ≡ value (initially v.init word.0) v.log word.0)
 ShowsWord v word None = IsQuiet v → ⊥
 
--- this is so of one of the slices
+-- `Holds` is true of this slice
 pub record HasAt (slices : List PartsView) (slice : ℕ) (Holds : PartsView → Type 0) : Type 0 where
   pub state : PartsView
   pub found : slice_get slices slice ≡ Some state
@@ -100,12 +100,12 @@ abbrev pub IsShownLine : List PartsView → ℕ → LineAddr → LineView → Ty
 IsShownLine slices slice line shown =
     HasAt slices slice (λ state. ShowsLine state.view (local_at state.view.lines line.0) (Some shown))
 
--- what the slice has of a line: nothing of one that isn't its own
+-- the slice's view of a line: none for one that isn't its own
 abbrev pub IsLineView : List PartsView → ℕ → LineAddr → Option LineView → Type 0
 IsLineView slices slice line shown =
     HasAt slices slice (λ state. ShowsLine state.view (local_at state.view.lines line.0) shown)
 
--- the message in front of the channel, where one waits there
+-- the message at the front of the channel, if one waits there
 abbrev pub IsFront : List PartsView → ℕ → Pick → Option Message → Type 0
 IsFront slices slice pick front =
     HasAt slices slice
@@ -126,7 +126,7 @@ IsQuietWord slices slice word shown =
     (state : PartsView) → slice_get slices slice ≡ Some state
     → IsQuiet state.view × (shown ≡ value (initially state.view.init word.0) state.view.log word.0)
 
--- what a slice of the machine has counted
+-- the counters of a slice of the machine
 pub record IsCountOf (config : Config) (stats : StatsView) : Type 0 where
   pub cores : length stats.cores ≡ config.cores
   pub exclusive : stats.exclusive ≡ config.exclusive

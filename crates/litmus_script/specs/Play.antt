@@ -8,7 +8,7 @@ use Rattle.litmus_text.specs.declared.command.Command.{Command}
 use Rattle.litmus_text.specs.declared.fault.TextFault.{TextFault}
 use Rattle.litmus_text.specs.declared.fault.TextFault.TheVariants as text_faults
 
--- a fault that isn't the text's: there was no memory, or the output couldn't be written
+-- a fault that isn't the text's: memory ran out, or the output couldn't be written
 abbrev pub IsOfRun : TextFault → Type 0
 IsOfRun text_faults.NoMemory = Unit {0}
 IsOfRun text_faults.CannotWrite = Unit {0}
@@ -32,7 +32,7 @@ PlaysAll {P} plays config (statement ∷ more) old new before after =
     (mid : P) × (middle : Option (List ℕ)) × PlaysOne plays config statement.1 old mid before middle
     × PlaysAll plays config more mid new middle after
 
--- why a statement isn't played, where commands stand
+-- why a statement isn't played where a command is expected
 abbrev pub IsCommandFault : Config → ℕ × List (List ℕ) → Option (List ℕ) → Option (List ℕ) → TextFault → Type 0
 IsCommandFault config statement before after fault =
     IsNotPlayed (IsFaultBehind config statement.1) statement.0 before after fault

@@ -34,7 +34,7 @@ use Rattle.stats_report.specs.Report.{report_of}
 abbrev pub Adds : Option (List ℕ) → Option (List ℕ) → List ℕ → Type 0
 Adds before after text = Appends before after (text ++ codes "\n")
 
--- a pump's deliveries are told like this, and then what is left is written
+-- a pump's deliveries are reported as `tells` says, and then what remains is written
 pub record PrintsPump (tells : Telling) (slices calls : ℕ) (old new : List PartsView)
     (before after : Option (List ℕ)) : Type 0 where
   pub pumped : Pumped
@@ -48,7 +48,7 @@ text_of_machine_look config machine_looks.Stats slices = report_of (counts_in sl
 text_of_machine_look config machine_looks.Waiting slices = text_of_waiting slices
 text_of_machine_look config machine_looks.Show slices = text_of_machine config slices
 
--- what a machine has is written after what was written before
+-- what is shown of a machine is appended to what was written before
 abbrev pub Shows : Config → Look → List PartsView → Option (List ℕ) → Option (List ℕ) → Type 0
 Shows config (looks.Word word) slices before after =
     (shown : Option ℕ) × IsShownWord slices (word.0 / 8 % config.slices) word shown
@@ -61,8 +61,8 @@ Shows config (looks.Log slice) slices before after =
 Shows config (looks.Machine look) slices before after =
     Appends before after (text_of_machine_look config look slices)
 
--- The command's call of its slice, and what is written of the slice's answer after what was written before. What only
--- shows something leaves the machine as it was.
+-- The command's call of its slice, and the text appended for the slice's answer. A command that only shows something
+-- leaves the machine unchanged.
 abbrev pub Prints : Config → Command → List PartsView → List PartsView → Option (List ℕ) → Option (List ℕ) → Type 0
 Prints config (commands.Issue core request) old new before after =
     (issued : Issued) × IsIssued ((line_of_word request.word).0 % config.slices) core request issued old new
@@ -81,7 +81,7 @@ Prints config (commands.Hand core slice) old new before after =
 Prints config (commands.Look look) old new before after = (new ≡ old) × Shows config look old before after
 Prints config (commands.Pump calls) old new before after = PrintsPump Silently config.slices calls old new before after
 
--- The command's answer is printed. As a record it isn't unfolded where it is handed on.
+-- The command's answer is printed. As a record it isn't unfolded where it is passed on.
 pub record IsPrinted (config : Config) (command : Command) (old new : List PartsView)
     (before after : Option (List ℕ)) : Type 0 where
   pub printed : Prints config command old new before after

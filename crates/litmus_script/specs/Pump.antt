@@ -15,13 +15,13 @@ use Rattle.slice_answer.specs.declared.answer.Delivery.TheVariants as deliveries
 use Rattle.slice_answer.specs.declared.answer.Delivery.{Delivery}
 use Rattle.slice_queues.specs.declared.channel.Pick.{Pick}
 
--- the slice was asked for a delivery of any class, and answered this
+-- the slice was asked for a delivery of any class, and gave this answer
 abbrev pub IsDelivered : ℕ → Delivery Pick → List PartsView → List PartsView → Type 0
 IsDelivered slice answer old new =
     IsAnswered slice (slice_calls.DeliverNext classes.Any) (call_answers.DeliverNext answer) old new
 
--- A telling of deliveries: what the next delivery of a slice, by its answer, does to the slices of a machine, and what
--- is written of it after what was written before.
+-- How deliveries are reported: what the next delivery of a slice, by its answer, does to the slices of a machine, and
+-- the text that it appends.
 abbrev pub Telling : Type 1
 Telling = List PartsView → ℕ → Delivery Pick → Option (List ℕ) → Option (List ℕ) → List PartsView → Type 0
 
@@ -29,8 +29,8 @@ Telling = List PartsView → ℕ → Delivery Pick → Option (List ℕ) → Opt
 abbrev pub Silently : Telling
 Silently old slice answer before after new = IsDelivered slice answer old new × (after ≡ before)
 
--- From this slice on, a delivery was made in one slice after another, by these answers. Each begins at the machine, and
--- after the text, that the one before it left.
+-- From this slice on, a delivery was made in one slice after another, with these answers. Each begins with the machine
+-- and the text that the one before it left.
 abbrev pub Delivers : {D : Type 0} → (D → ℕ → Delivery Pick → Option (List ℕ) → Option (List ℕ) → D → Type 0) → ℕ
     → List (Delivery Pick) → D → D → Option (List ℕ) → Option (List ℕ) → Type 0
 Delivers tells slice [] old new before after = (new ≡ old) × (after ≡ before)
@@ -48,7 +48,7 @@ abbrev pub is_nothing : Delivery Pick → Bool
 is_nothing deliveries.Nothing = true
 is_nothing answer = false
 
--- each of the first so many slices was asked, and gave these answers
+-- each of the first `slices` slices was asked, and gave these answers
 pub record IsRound {D : Type 0} (tells : D → ℕ → Delivery Pick → Option (List ℕ) → Option (List ℕ) → D → Type 0)
     (slices : ℕ) (given : List (Delivery Pick)) (old new : D) (before after : Option (List ℕ)) : Type 0 where
   pub whole : length given ≡ slices
@@ -61,7 +61,7 @@ pub record Moves {D : Type 0} (tells : D → ℕ → Delivery Pick → Option (L
   pub round : IsRound tells slices given old new before after
   pub moved : list_any is_moved given ≡ true
 
--- so many of them, one after another
+-- n of them, one after another
 abbrev pub MovesTimes : {D : Type 0} → (D → ℕ → Delivery Pick → Option (List ℕ) → Option (List ℕ) → D → Type 0) → ℕ → ℕ
     → D → D → Option (List ℕ) → Option (List ℕ) → Type 0
 MovesTimes tells slices zero old new before after = (new ≡ old) × (after ≡ before)
@@ -69,21 +69,21 @@ MovesTimes {D} tells slices (suc n) old new before after =
     (mid : D) × (middle : Option (List ℕ)) × MovesTimes tells slices n old mid before middle
     × Moves tells slices mid new middle after
 
--- A round over all slices ended it, in which none was delivered. Whether a message waited in some slice is said.
+-- A round over all slices that delivered nothing ended it. The result says whether a message waited in some slice.
 pub record EndsStill (slices calls before : ℕ) (given : List (Delivery Pick)) (pumped : Pumped) : Type 0 where
   pub whole : length given ≡ slices
   pub within : (before + 1) * slices ≤ calls
   pub still : list_any is_moved given ≡ false
   pub said : pumped ≡ (if list_all is_nothing given then pumps.Empty else pumps.Left)
 
--- The calls that were left behind whole rounds ended it, too few for one more.
+-- The calls that remained after whole rounds ended it, too few for one more.
 pub record EndsOut (slices calls before : ℕ) (given : List (Delivery Pick)) (pumped : Pumped) : Type 0 where
   pub all : before * slices + length given ≡ calls
   pub few : length given < slices
   pub said : pumped ≡ pumps.Left
 
--- A pump of so many calls at most: rounds over all slices, each of which delivers a message, and then the calls that
--- end it. What is said is `left`, but where the last round found no message in any slice.
+-- A pump of at most `calls` calls: rounds over all slices, each of which delivers a message, and then the calls that
+-- end it. The result is `left`, unless the last round found no message in any slice.
 pub record Pumps {D : Type 0} (tells : D → ℕ → Delivery Pick → Option (List ℕ) → Option (List ℕ) → D → Type 0)
     (slices calls : ℕ) (pumped : Pumped) (old new : D) (before after : Option (List ℕ)) : Type 0 where
   pub turns : ℕ
@@ -94,28 +94,28 @@ pub record Pumps {D : Type 0} (tells : D → ℕ → Delivery Pick → Option (L
   pub made : Delivers tells 0 given mid new middle after
   pub ends : EndsStill slices calls turns given pumped ⊎ EndsOut slices calls turns given pumped
 
--- ---- a pump's own words
+-- ---- notions of the pump alone
 
--- what a round came to
+-- the result of a round
 abbrev pub round_of : List (Delivery Pick) → Round
 round_of given =
     if list_any is_moved given then rounds.Moved else if list_all is_nothing given then rounds.Empty else rounds.Stuck
 
--- .. with one answer more
+-- .. with one more answer
 abbrev pub round_after : Round → Delivery Pick → Round
 round_after round (deliveries.Moved pick) = rounds.Moved
 round_after round deliveries.Nothing = round
 round_after rounds.Moved answer = rounds.Moved
 round_after round answer = rounds.Stuck
 
--- a round over the first so many slices, and what it came to
+-- a round over the first `slices` slices, and its result
 pub record ComesTo {D : Type 0} (tells : D → ℕ → Delivery Pick → Option (List ℕ) → Option (List ℕ) → D → Type 0)
     (slices : ℕ) (round : Round) (old new : D) (before after : Option (List ℕ)) : Type 0 where
   pub given : List (Delivery Pick)
   pub made : IsRound tells slices given old new before after
   pub came : round ≡ round_of given
 
--- Of so many rounds all delivered a message, or a round that delivered none was the last.
+-- All of `count` rounds delivered a message, or the last round made was one that delivered none.
 abbrev pub AreRounds : {D : Type 0} → (D → ℕ → Delivery Pick → Option (List ℕ) → Option (List ℕ) → D → Type 0) → ℕ → ℕ
     → Round
     → D → D → Option (List ℕ) → Option (List ℕ) → Type 0

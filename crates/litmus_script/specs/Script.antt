@@ -23,7 +23,7 @@ use Rattle.litmus_script.specs.declared.script.Script.{Script}
 
 -- ---- the configuration
 
--- the words write a line that configures, which makes these settings of those
+-- the words write a line that configures, which turns the old settings into the new ones
 pub record TakesLine (words : List (List ℕ)) (old new : Settings) : Type 0 where
   pub line : ConfigLine
   pub written : Writes words (parts_of_config_line line)
@@ -39,14 +39,14 @@ abbrev pub BeginOtherwise : List (ℕ × List (List ℕ)) → Type 0
 BeginOtherwise [] = Unit {0}
 BeginOtherwise (statement ∷ more) = ¬ BeginsAsConfig statement.1
 
--- the first statements make these settings, and those are left
+-- the first statements make these settings, and the others remain
 pub record IsConfigured (all : List (ℕ × List (List ℕ))) (settings : Settings)
     (left : List (ℕ × List (List ℕ))) : Type 0 where
   pub done : List (ℕ × List (List ℕ))
   pub split : all ≡ done ++ left
   pub configured : Configures default_settings done settings
 
--- why a line wasn't taken: what is wrong with its words as a line that configures, or there was no memory
+-- why a line wasn't taken: what is wrong with its words as a line that configures, or memory ran out
 abbrev pub IsLineFault : ℕ × List (List ℕ) → TextFault → Type 0
 IsLineFault statement (text_faults.Line number fault) =
     (number ≡ statement.0) × IsFormFaultOf parts_of_config_line statement.1 fault
@@ -54,13 +54,13 @@ IsLineFault statement (text_faults.Config error) = ⊥
 IsLineFault statement text_faults.NoMemory = Unit {0}
 IsLineFault statement text_faults.CannotWrite = ⊥
 
--- the machine has a field at fault
+-- the machine has an invalid field
 abbrev pub IsRefused : Config → TextFault → Type 0
 IsRefused config (text_faults.Config error) = first_fault config ≡ Some error
 IsRefused config fault = ⊥
 
--- What is wrong with the first of the statements that are left, where it begins as a line that configures; or, where it
--- doesn't, with the machine that was configured.
+-- What is wrong with the first remaining statement, if it begins as a line that configures; or else with the machine
+-- that was configured.
 abbrev pub IsConfigFault : Settings → List (ℕ × List (List ℕ)) → TextFault → Type 0
 IsConfigFault settings [] fault = IsRefused settings.config fault
 IsConfigFault settings (statement ∷ more) fault =
@@ -80,7 +80,7 @@ pub record IsNotConfigured (all : List (ℕ × List (List ℕ))) (fault : TextFa
 abbrev pub said_by : Statement → ℕ × List (List ℕ)
 said_by statement = (statement.number, map (λ w. w.now) statement.words.items)
 
--- the statements that are left, of which the first may have been read already
+-- the remaining statements; the first may have been read already
 abbrev pub left_of : Option Statement → List (ℕ × List (List ℕ)) → List (ℕ × List (List ℕ))
 left_of None rest = rest
 left_of (Some first) rest = said_by first ∷ rest
@@ -104,15 +104,14 @@ abbrev pub IsScript : List (ℕ × List (List ℕ)) → Script → Type 0
 IsScript all script =
     IsSetUp all script.config (bound_of script.misses script.config) (commands_of script.commands)
 
--- .. or there is none where nothing is said
+-- .. or there is none if there are no statements
 abbrev pub IsReadAs : List (ℕ × List (List ℕ)) → Option Script → Type 0
 IsReadAs all None = all ≡ []
 IsReadAs all (Some script) = IsScript all script
 
 -- ---- a run
 
--- A style of playing: what a command on this line does to the slices of a machine, and what is written of it after
--- what was written before.
+-- A style of playing: what a command on this line does to the slices of a machine, and the text that it appends.
 abbrev pub Playing : Type 1
 Playing = Config → List PartsView → List ℕ → Command → Option (List ℕ) → Option (List ℕ) → List PartsView → Type 0
 
@@ -120,7 +119,7 @@ Playing = Config → List PartsView → List ℕ → Command → Option (List �
 abbrev pub Plainly : Playing
 Plainly config old line command before after new = IsPrinted config command old new before after
 
--- .. and follows the line where lines are echoed
+-- .. after the line if lines are echoed
 abbrev pub Echoed : Bool → Playing → Playing
 Echoed false plays config old line command before after new = plays config old line command before after new
 Echoed true plays config old line command before after new =
@@ -146,21 +145,21 @@ pub record IsStoppedOn (plays : Playing) (config : Config) (bound : Bound) (comm
   pub fresh : IsNewMachine config bound start
   pub stopped : PlaysUpTo (plays config) config commands start before after fault
 
--- .. or there was no memory for a new machine
+-- .. or memory ran out for a new machine
 abbrev pub IsPlayedUpTo : Playing → Config → Bound → List (ℕ × List (List ℕ)) → Option (List ℕ)
     → Option (List ℕ) → TextFault → Type 0
 IsPlayedUpTo plays config bound commands before after fault =
     ((fault ≡ text_faults.NoMemory) × (after ≡ before)) ⊎ IsStoppedOn plays config bound commands before after fault
 
--- A script is run: what its commands print is written, in order. One that says nothing writes nothing.
+-- A script is run: what its commands print is written, in order. An empty script writes nothing.
 abbrev pub IsRun : Playing → List (ℕ × List (List ℕ)) → Option (List ℕ) → Option (List ℕ) → Type 0
 IsRun plays all before after =
     ((all ≡ []) × (after ≡ before))
     ⊎ ((config : Config) × (bound : Bound) × (commands : List (ℕ × List (List ℕ)))
     × IsSetUp all config bound commands × IsPlayedOn plays config bound commands before after)
 
--- A fault ends the run of a script: before the first command, where nothing is written; or at a command, where what the
--- ones before it print is written.
+-- A fault ends the run of a script: before the first command, with nothing written; or at a command, with the answers
+-- of those before it written.
 abbrev pub IsRunUpTo : Playing → List (ℕ × List (List ℕ)) → Option (List ℕ) → Option (List ℕ) → TextFault → Type 0
 IsRunUpTo plays all before after fault =
     (IsNotConfigured all fault × (after ≡ before))

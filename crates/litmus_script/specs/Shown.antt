@@ -1,4 +1,4 @@
--- What a log says, as a trace.
+-- A log as a trace.
 use Rattle.std.specs.Prelude.{ℕ, nat_lt, ◌||◌, Bool, true, false, List, ◌++◌, if◌then◌else◌}
 use Rattle.std.specs.List.{flat_map, list_any}
 use Rattle.address_map.specs.declared.address.WordAddr.{WordAddr}
@@ -20,7 +20,7 @@ is_compare_exchange op = false
 abbrev pub has_compare_exchange : List Entry → Bool
 has_compare_exchange log = list_any (λ (entry : Entry). is_compare_exchange entry.op) log
 
--- the second version of a trace, where the first has no words for so many cores or for some access
+-- the second version of a trace, if the first can't name `cores` cores or express some access
 abbrev pub version_for : ℕ → List Entry → Version
 version_for cores log =
     if has_compare_exchange log || nat_lt (cores_of versions.One) cores then versions.Two else versions.One

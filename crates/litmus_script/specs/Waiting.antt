@@ -25,7 +25,7 @@ use Rattle.slice_answer.specs.declared.answer.Delivery.TheVariants as deliveries
 use Rattle.slice_answer.specs.declared.answer.Delivery.{Delivery}
 use Rattle.slice_core_spec.specs.declared.transition.Transition.{Transition}
 
--- in which state the directory's entry, or the core's copy, is that a channel's messages come to
+-- the state of the directory's entry, or of the core's copy, that receives a channel's messages
 abbrev pub receiver_state : View → Local → Channel → List ℕ
 receiver_state v local (channels.Req core) = name_of_entry (entry_at v local).state
 receiver_state v local (channels.Fwd core) = name_of_copy (state_of (cache_at v core) local)
@@ -33,20 +33,20 @@ receiver_state v local (channels.Data core) = name_of_copy (state_of (cache_at v
 receiver_state v local (channels.Ack to from) = name_of_copy (state_of (cache_at v to) local)
 receiver_state v local channels.Home = name_of_entry (entry_at v local).state
 
--- what a delivery would do, where the receiver is in this state
+-- what a delivery would do, if the receiver is in this state
 abbrev pub text_of_plan : Delivery Transition → List ℕ → List ℕ
 text_of_plan deliveries.Nothing state = codes "nothing"
 text_of_plan deliveries.Blocked state = codes "blocked: " ++ state
 text_of_plan (deliveries.Broken cell) state = codes "broken " ++ text_of_cell cell
 text_of_plan plan state = codes "moves"
 
--- a message in front of its channel: the command that delivers it, its name, and what that would do
+-- a message at the front of its channel: the command that delivers it, its name, and what that would do
 abbrev pub text_of_flight : Pick → Message → Delivery Transition → List ℕ → List ℕ
 text_of_flight pick message plan state =
     text_of_parts (parts_of (commands.Deliver pick)) ++ codes "   " ++ text_of_message message ++ codes "   "
     ++ text_of_plan plan state ++ codes "\n"
 
--- the line of the message in front of a channel; none where nothing waits there
+-- the line of the message at the front of a channel; none if nothing waits there
 abbrev pub text_in_front : View → Pick → Option Local → Option Message → List ℕ
 text_in_front v pick (Some local) (Some message) =
     text_of_flight pick message (planned_at v pick) (receiver_state v local (channel_of pick))
@@ -61,7 +61,7 @@ text_at v pick =
 abbrev pub picks_of : View → List Pick
 picks_of v = lines_waiting v.lines.slice v.lines.slices 0 v.channels
 
--- the messages in front of these channels of a slice
+-- the messages at the fronts of these channels of a slice
 abbrev pub flights_of : View → List Pick → List (View × Pick)
 flights_of v picks = map (λ pick. (v, pick)) picks
 
@@ -73,7 +73,7 @@ in_flight slices = flat_map (λ state. flights_of state.view (picks_of state.vie
 abbrev pub lines_of : List (View × Pick) → List ℕ
 lines_of flights = flat_map (λ flight. text_at flight.0 flight.1) flights
 
--- .. or `none`, where there is none
+-- .. or `none`, if there is none
 abbrev pub text_of_flights : List (View × Pick) → List ℕ
 text_of_flights [] = codes "none\n"
 text_of_flights (flight ∷ more) = lines_of (flight ∷ more)

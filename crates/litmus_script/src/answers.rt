@@ -12,7 +12,7 @@ use stats_report::{Cut, write_text};
 use std::fmt;
 use std::io::Write;
 
-/// Where answers go: each piece of text is written whole, or the writing fails.
+/// Writes answers: each piece of text is written whole, or the writing fails.
 #[derive(Drop)]
 pub struct TextWriter<'a, W> {
     pub out: &'a mut W,
@@ -44,7 +44,7 @@ pub(crate) fn write_line<W: Write>(line: &[u8], out: &mut W) -> Result<(), Cut>
     write_text(out, b"\n")
 }
 
-/// What a write came to, as what it comes to for a text.
+/// Converts the result of a write to that of a text.
 pub fn written(wrote: fmt::Result) -> Result<(), TextFault>
     ensures fine { IsOk result ↔ IsOk wrote }
     ensures fault { IfErr result (λ fault. fault ≡ TextFault.CannotWrite) }
@@ -55,7 +55,7 @@ pub fn written(wrote: fmt::Result) -> Result<(), TextFault>
 /// What became of an access.
 #[derive(Clone, Copy, Debug, PartialEq, Eq)]
 pub enum Issued {
-    /// It is performed, under this number in the log.
+    /// It is performed, as the log's entry of this number.
     Done { number: u64, reply: u64 },
     /// It is the core's request of this number, and waits.
     Pending(u64),
@@ -79,7 +79,7 @@ impl fmt::Display for Issued {
     }
 }
 
-/// What is left after a pump.
+/// What remains after a pump.
 #[derive(Clone, Copy, Debug, PartialEq, Eq)]
 pub enum Pumped {
     /// No message waited in any slice.
@@ -118,7 +118,7 @@ pub fn write_delivered<W: fmt::Write>(delivered: Delivered, out: &mut W) -> fmt:
     }
 }
 
-/// Writes the reply that is handed out, or that there is none.
+/// Writes the reply that is delivered to the core, or that there is none.
 pub fn write_handed<W: fmt::Write>(handed: Option<Numbered>, out: &mut W) -> fmt::Result
     ensures { OnOk result (WritesLine W.write_str_gives out.old (text_of_handed handed) out.new) }
 {
@@ -138,7 +138,7 @@ pub(crate) fn write_word<W: fmt::Write>(shown: Option<u64>, out: &mut W) -> fmt:
     }
 }
 
-/// Writes what is left after a pump.
+/// Writes what remains after a pump.
 pub fn write_pumped<W: fmt::Write>(pumped: Pumped, out: &mut W) -> fmt::Result
     ensures { OnOk result (WritesLine W.write_str_gives out.old (text_of_pumped pumped) out.new) }
 {
@@ -148,7 +148,7 @@ pub fn write_pumped<W: fmt::Write>(pumped: Pumped, out: &mut W) -> fmt::Result
     }
 }
 
-/// Writes an answer that is always the same, with its end.
+/// Writes a fixed answer, with its line end.
 fn write_whole<W: fmt::Write>(text: &str, out: &mut W) -> fmt::Result
     ensures { OnOk result (W.write_str_gives out.old text.now out.new) }
 {
@@ -158,7 +158,7 @@ fn write_whole<W: fmt::Write>(text: &str, out: &mut W) -> fmt::Result
 /// Room for the longest answer to an access that is done: two numbers of twenty digits, and the words around them.
 const DONE_ROOM: usize = 64;
 
-/// Writes the answer to an access that is done. Most answers are such ones, so its text is put together before it is
+/// Writes the answer to an access that is done. Most answers are of this kind, so the text is built before it is
 /// written.
 fn write_done<W: fmt::Write>(number: u64, reply: u64, out: &mut W) -> fmt::Result
     ensures { OnOk result (W.write_str_gives out.old
@@ -177,7 +177,7 @@ fn write_done<W: fmt::Write>(number: u64, reply: u64, out: &mut W) -> fmt::Resul
 /// Room for the longest receipt: two numbers of twenty digits, a tag, and the words around them.
 const RECEIPT_ROOM: usize = 80;
 
-/// Writes a receipt. Its text is put together before it is written, since there is one for each access.
+/// Writes a receipt. Its text is built before it is written, since there is one for each access.
 fn write_receipt<W: fmt::Write>(number: u64, tag: u8, reply: u64, out: &mut W) -> fmt::Result
     ensures { OnOk result (W.write_str_gives out.old
         (codes "receipt " ++ decimal number ++ codes " tag " ++ decimal tag ++ codes " reply " ++ decimal reply

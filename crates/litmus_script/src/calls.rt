@@ -1,5 +1,5 @@
-//! The calls that a machine makes of one of its slices. What a slice promises of a call is long, and a machine needs
-//! little of it: that the slice stays the one that it was.
+//! The calls that a machine makes to one of its slices. The contract of a slice's call is long, and a machine needs
+//! little of it: that the slice remains the same slice.
 ghost use Rattle.std.specs.Prelude.{◌≡◌, ◌<◌, [], length, IfErr, IfOk, IsSome, Some};
 ghost use Rattle.address_map.specs.Locator.{local_at};
 ghost use Rattle.address_map.specs.Place.{line_of};
@@ -35,7 +35,7 @@ pub(crate) fn build(
     Ok(state)
 }
 
-/// The same slice, in memory of its own.
+/// Returns a copy of a slice.
 pub(crate) fn copied(
     state: &SliceState<EitherFile>,
     alloc: Global,
@@ -45,8 +45,8 @@ pub(crate) fn copied(
     state.try_clone(alloc)
 }
 
-/// An access of a core, and what became of it.
-// What became of an access isn't put together where it is written at once.
+/// Issues an access of a core, and returns what became of it.
+// inlined, so that a result that is written at once need not be built
 #[inline(always)]
 pub fn issue(
     state: &mut SliceState<EitherFile>,
@@ -97,7 +97,7 @@ pub(crate) fn hand(state: &mut SliceState<EitherFile>, core: CoreId) -> Option<N
     state.hand(core)
 }
 
-/// What a slice has of a line of its own.
+/// Returns a slice's view of a line of its own.
 pub(crate) fn line(state: &SliceState<EitherFile>, line: LineAddr) -> LineView
     requires { IsSome (local_at state.now.view.lines line.0) }
     ensures { ShowsLine state.now.view (local_at state.now.view.lines line.0) (Some result) }
@@ -108,7 +108,7 @@ pub(crate) fn line(state: &SliceState<EitherFile>, line: LineAddr) -> LineView
     }
 }
 
-/// The value of a word, where the slice is quiet.
+/// Returns the value of a word, if the slice is quiet.
 pub(crate) fn word(state: &SliceState<EitherFile>, word: WordAddr) -> Option<u64>
     requires { IsSome (local_at state.now.view.lines (line_of word).0) }
     ensures { ShowsWord state.now.view word result }

@@ -8,21 +8,20 @@ use litmus_text::TextFault;
 use slice_core::DeliveredNext;
 use std::io::Write;
 
-/// What makes a pump's deliveries in the slices of a machine, and may write of each what it did.
+/// Makes a pump's deliveries in the slices of a machine, and may write what each did.
 pub trait Deliverer: Sized + Drop {
     ghost config_of: { Self → Config };
 
-    /// What the next delivery of the slice with this number does, by its answer: from a deliverer, and what was written
-    /// before, to those after it.
+    /// What the next delivery of the slice with this number does, by its answer: from the deliverer and the text before
+    /// to those after.
     ghost delivers: { Self → ℕ → Delivery Pick → Option (List ℕ) → Option (List ℕ) → Self → Type 0 };
 
-    /// How many slices the machine has.
+    /// Returns the number of slices.
     fn slices(&self) -> usize
         ensures count { result ≡ (config_of self.now).slices }
         ensures some { 0 < result };
 
-    /// Makes the next delivery of the slice with this number, where one can be made, and writes what there is to say of
-    /// it.
+    /// Makes the next delivery of the slice with this number, if one can be made, and writes what is reported of it.
     fn deliver_next<W: Write>(
         &mut self,
         slice: usize,

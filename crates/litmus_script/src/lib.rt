@@ -1,13 +1,13 @@
 //! Runs scripts on a machine, on one thread.
 //!
-//! - [`run_script`] runs a script line by line on one slice's state for each slice. It writes each answer as it comes,
-//!   and keeps nothing of it: a call takes memory for the machine, for the log's growth and for a report's text alone.
+//! - [`run_script`] runs a script line by line on one slice's state for each slice. It writes each answer as it comes
+//!   and keeps none: a call allocates only for the machine, for the log's growth and for a report's text.
 //! - [`Script`] is a script whose configuration was read. Its [`Commands`] are played in order by a [`Player`]: the
-//!   [`Machine`] itself, or another on it, as the [`Style`] has it in which the script is run ([`run_in_style`]).
-//! - [`TextWriter`] is where answers go, and the functions beside it write the text of each. [`write_trace`] writes a log.
-//! - [`issue`] is an access of one slice, with what became of it as it is printed.
-//! - [`pump_slices`] has a [`Deliverer`], which the [`Machine`] is, deliver whatever waits, round and round over the
-//!   slices.
+//!   [`Machine`] itself, or another on it, chosen by the [`Style`] in which the script is run ([`run_in_style`]).
+//! - [`TextWriter`] writes answers, and the functions next to it the text of each. [`write_trace`] writes a log.
+//! - [`issue`] is an access of one slice, and returns what became of it as it is printed.
+//! - [`pump_slices`] delivers waiting messages, round and round over the slices, by a [`Deliverer`] such as the
+//!   [`Machine`].
 #![tactic(auto)]
 
 pub use answers::{

@@ -73,7 +73,7 @@ impl Machine {
         })
     }
 
-    /// The same machine, in memory of its own.
+    /// Returns a copy of the machine.
     pub fn try_clone(&self) -> Result<Self, AllocError>
         ensures config { IfOk result (λ copy. copy.config ≡ self.now.config) }
         ensures slices { IfOk result (λ copy. copy.slices.items ≡ self.now.slices.items) }
@@ -92,7 +92,7 @@ impl Machine {
     }
 
     /// A word past the memory goes to slice 0, which refuses it.
-    // Most commands are accesses: what became of one isn't put together where it is written at once.
+    // Most commands are accesses: inlined, so that a result that is written at once need not be built.
     #[inline(always)]
     pub fn issue(&mut self, core: CoreId, request: Request) -> Result<Issued, TextFault>
         requires { HasCore self.old.config core }
@@ -137,14 +137,14 @@ impl Machine {
         calls::hand(&mut self.slices[slice.0 as usize], core)
     }
 
-    /// The message that a delivery at the pick would take.
+    /// Returns the message that a delivery at the pick would take.
     pub fn front(&self, pick: Pick) -> Option<Message>
         ensures { IsFront self.now.slices.items ((line_of pick).0 % self.now.config.slices) pick result }
     {
         self.slices[self.slice_of(pick.line())].front(pick)
     }
 
-    /// The channels of a line in which a message waits, kind by kind.
+    /// Returns the channels of a line in which a message waits, kind by kind.
     pub fn waiting_at(&self, line: LineAddr) -> Option<LineWaiting<'_>>
         ensures there { IfNone result (HasNoLine self.now.slices.items (line.0 % self.now.config.slices) line) }
         ensures waiting { IfSome result (AreWaiting self.now.slices.items (line.0 % self.now.config.slices) line) }
@@ -152,14 +152,14 @@ impl Machine {
         self.slices[self.slice_of(line)].waiting_at(line)
     }
 
-    /// What its slice has of a line: none for a line that the memory doesn't have.
+    /// Returns the slice's view of a line: none for a line outside the memory.
     pub fn view(&self, line: LineAddr) -> Option<LineView>
         ensures { IsLineView self.now.slices.items (line.0 % self.now.config.slices) line result }
     {
         self.slices[self.slice_of(line)].line_view(line)
     }
 
-    /// What a slice has performed, in order.
+    /// Returns what a slice has performed, in order.
     pub fn log_of(&self, slice: SliceId) -> &[Entry]
         ensures { result.now ≡ log_at self.now.slices.items slice.0 }
     {
@@ -169,7 +169,7 @@ impl Machine {
         }
     }
 
-    /// The values that words of a slice begin with.
+    /// Returns the initial values of a slice's words.
     pub(crate) fn init_of(&self, slice: SliceId) -> &[(WordAddr, u64)]
         ensures { result.now ≡ init_at self.now.slices.items slice.0 }
     {
@@ -179,7 +179,7 @@ impl Machine {
         }
     }
 
-    /// Whether nothing is in flight, and each reply is handed out.
+    /// Whether nothing is in flight, and each reply was delivered to its core.
     pub fn is_quiet(&self) -> bool
         ensures { IsTrue result ↔ All (λ state. IsQuiet state.view) self.now.slices.items }
     {
@@ -191,7 +191,7 @@ impl Machine {
         true
     }
 
-    /// The value of a word of the memory, where its slice is quiet.
+    /// Returns the value of a word of the memory, if its slice is quiet.
     pub fn word_now(&self, word: WordAddr) -> Option<u64>
         requires { word.0 / 8 < self.now.config.lines }
         ensures quiet { IfSome result (IsQuietWord self.now.slices.items (word.0 / 8 % self.now.config.slices) word) }
@@ -200,7 +200,7 @@ impl Machine {
         calls::word(&self.slices[self.slice_of(word.line())], word)
     }
 
-    /// What the slice of this line has of it. Each line has a slice.
+    /// Returns the slice's view of a line. Each line has a slice.
     pub(crate) fn line_now(&self, line: LineAddr) -> LineView
         requires { HasLine self.now.config line }
         ensures { IsShownLine self.now.slices.items (line.0 % self.now.config.slices) line result }
@@ -208,7 +208,7 @@ impl Machine {
         calls::line(&self.slices[self.slice_of(line)], line)
     }
 
-    /// What each slice has counted, in order.
+    /// Returns the counters of each slice, in order.
     pub(crate) fn stats(&self) -> Result<Vec<&Stats>, AllocError>
         ensures alike { IfOk result (λ stats. AreAlike (views_of stats.items)) }
         ensures counts { IfOk result (λ stats. views_of stats.items ≡ counts_in self.now.slices.items) }
@@ -220,8 +220,8 @@ impl Machine {
         Ok(stats)
     }
 
-    /// The slice of a line. Lines go to the slices in turn. Where there are 1, 2 or 4 slices no division is made, which
-    /// would cost more than much else of a call.
+    /// Returns the slice of a line. Lines are interleaved among the slices. With 1, 2 or 4 slices no division is made,
+    /// which would cost more than much else of a call.
     pub fn slice_of(&self, line: LineAddr) -> usize
         ensures slice { result ≡ line.0 % self.now.config.slices }
         ensures known { result < length self.now.slices.items }
@@ -237,7 +237,7 @@ impl Machine {
     }
 }
 
-/// Each slice of a new machine, whose cores keep their misses in files like this one, which has none.
+/// Returns the slices of a new machine, whose cores keep their misses in copies of this empty file.
 fn new_slices(
     alloc: Global,
     config: &Checked,

@@ -8,18 +8,18 @@ use address_map::Checked;
 use litmus_text::{Command, Statement, TextFault};
 use std::io::Write;
 
-/// What plays the commands of a script, one at a time.
+/// Plays the commands of a script, one at a time.
 pub trait Player: Sized + Drop {
     ghost config_of: { Self → Config };
 
-    /// What a command on a line of this text does: from a player, and what was written before, to those after it.
+    /// What a command on a line of this text does: from the player and the text before to those after.
     ghost plays: { Self → List ℕ → Command → Option (List ℕ) → Option (List ℕ) → Self → Type 0 };
 
-    /// The shape of the machine that is played on. It stays.
+    /// Returns the configuration of the machine that is played on. It never changes.
     fn config(&self) -> &Checked
         ensures { result.now ≡ config_of self.now };
 
-    /// Does what the command of a statement says, and writes what there is to say of it.
+    /// Plays the command of a statement, and writes its answer.
     fn play<W: Write>(
         &mut self,
         statement: &Statement<'_>,

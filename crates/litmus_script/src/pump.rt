@@ -11,7 +11,7 @@ use litmus_text::TextFault;
 use slice_core::DeliveredNext;
 use std::io::Write;
 
-/// What a round of deliveries over the slices came to.
+/// The result of a round of deliveries over the slices.
 #[derive(Clone, Copy)]
 pub(crate) enum Round {
     /// No message waited in any slice.
@@ -23,7 +23,7 @@ pub(crate) enum Round {
 }
 
 impl Round {
-    /// The same round with what one more slice answered.
+    /// Returns the round with one more slice's answer.
     fn after(self, delivered: DeliveredNext) -> Self
         ensures { result ≡ round_after self delivered }
     {
@@ -35,7 +35,7 @@ impl Round {
     }
 }
 
-/// Delivers messages, by so many calls at most, round and round over the slices.
+/// Delivers messages, with at most `calls` calls, round and round over the slices.
 pub fn pump_slices<D: Deliverer, W: Write>(
     deliverer: &mut D,
     calls: u64,
@@ -50,7 +50,7 @@ pub fn pump_slices<D: Deliverer, W: Write>(
     match make_rounds(deliverer, calls / slices as u64, out)? {
         Round::Empty => Ok(Pumped::Empty),
         Round::Stuck => Ok(Pumped::Left),
-        // the calls that are left make no whole round
+        // the remaining calls are too few for a whole round
         Round::Moved => {
             make_round(deliverer, (calls % slices as u64) as usize, out)?;
             Ok(Pumped::Left)
@@ -58,7 +58,7 @@ pub fn pump_slices<D: Deliverer, W: Write>(
     }
 }
 
-/// Makes so many rounds over all slices, up to one that moves nothing. Returns what the last came to.
+/// Makes `count` rounds over all slices, up to one that moves nothing. Returns the result of the last.
 fn make_rounds<D: Deliverer, W: Write>(
     deliverer: &mut D,
     count: u64,
@@ -79,7 +79,7 @@ fn make_rounds<D: Deliverer, W: Write>(
     Ok(Round::Moved)
 }
 
-/// Makes a delivery in each of the first slices, where one can be made.
+/// Makes a delivery in each of the first slices, if one can be made.
 fn make_round<D: Deliverer, W: Write>(
     deliverer: &mut D,
     count: usize,
@@ -99,7 +99,7 @@ fn make_round<D: Deliverer, W: Write>(
     Ok(round)
 }
 
-/// A machine says nothing of its deliveries.
+/// A machine writes nothing about its deliveries.
 impl Deliverer for Machine {
     ghost use Rattle.std.specs.Prelude.{◌≡◌};
     ghost use Rattle.litmus_script.specs.Pump.{Silently};

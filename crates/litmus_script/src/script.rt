@@ -23,8 +23,8 @@ use mshr_file::MissKind;
 use std::alloc::Global;
 use std::io::Write;
 
-/// Runs a script: its configuration, then its commands in order, each of which writes its answer, after its own line
-/// where echo is asked for. Returns the exit status. A fault ends the run; what was written before it stays.
+/// Runs a script: its configuration, then its commands in order. Each command writes its answer, after its own line
+/// if echo is on. Returns the exit status. A fault ends the run; what was written before it stays.
 pub fn run_script<W: Write>(
     alloc: Global,
     input: &[u8],
@@ -40,7 +40,7 @@ pub fn run_script<W: Write>(
     run_in_style(alloc, input, &Plain { echo }, out)
 }
 
-/// Runs a script, whose commands are played in this style.
+/// Runs a script in this style.
 pub fn run_in_style<S: Style, W: Write>(
     alloc: Global,
     input: &[u8],
@@ -100,7 +100,7 @@ pub trait Style {
             machine.slices.items (W.contents out.old) (W.contents out.new)) };
 }
 
-/// Each command's answer alone, or after the command's own line.
+/// Writes each command's answer alone, or after the command's own line.
 #[derive(Clone, Copy)]
 pub struct Plain {
     pub echo: bool,
@@ -166,7 +166,7 @@ pub struct Script<'a> {
 }
 
 impl<'a> Script<'a> {
-    /// Reads the configuration of a script, which has none where it says nothing at all.
+    /// Reads the configuration of a script. Returns none if the script is empty.
     pub fn read(alloc: Global, input: &'a [u8]) -> Result<Option<Self>, TextFault>
         ensures read { IfOk result (IsReadAs (statements_from 0 (lines input.now))) }
         ensures fault { IfErr result (IsNotConfigured (statements_from 0 (lines input.now))) }
@@ -197,7 +197,7 @@ impl<'a> Script<'a> {
     }
 }
 
-/// The statements that follow the configuration, of which the first may have been read already.
+/// The statements that follow the configuration. The first may have been read already.
 #[derive(Drop)]
 pub struct Commands<'a> {
     first: Option<Statement<'a>>,
@@ -272,8 +272,8 @@ fn checked(config: Config) -> Result<Checked, TextFault>
     }
 }
 
-/// Reads the lines that configure the machine. Returns also the first statement that isn't one of them, where
-/// there is one.
+/// Reads the lines that configure the machine. Also returns the first statement that isn't one of them, if there
+/// is one.
 fn read_settings<'a>(
     alloc: Global,
     first: Statement<'a>,
@@ -318,7 +318,7 @@ fn configure(settings: &mut Settings, statement: &Statement<'_>) -> Result<(), T
     }
 }
 
-/// What is wrong with a line after the configuration that has this fault as a command.
+/// Returns what is wrong with a line after the configuration that has this fault as a command.
 fn fault_behind(words: &[&[u8]], fault: LineFault) -> LineFault
     ensures { (config : Config) → IsFaultOfCommand config (map (λ w. w.now) words.now) fault
         → IsFaultBehind config (map (λ w. w.now) words.now) result }

@@ -1,4 +1,4 @@
-//! The commands that only show something.
+//! The commands that only show part of the machine.
 ghost use Rattle.std.specs.Prelude.{◌≡◌, ◌/◌, ◌<◌, IfErr, OnOk};
 ghost use Rattle.litmus_script.specs.Play.{IsOfRun};
 ghost use Rattle.litmus_script.specs.Prints.{IsPrinted};
@@ -48,7 +48,7 @@ impl Machine {
         written(write_word(shown, &mut answers))
     }
 
-    /// Shows what a slice has of a line.
+    /// Shows the slice's view of a line.
     fn show_state<W: Write>(&self, line: LineAddr, out: &mut W) -> Result<(), TextFault>
         requires { HasLine self.now.config line }
         ensures fault { IfErr result IsOfRun }

@@ -14,8 +14,8 @@ use std::fmt::Write;
 /// The most cores that a trace of version 1 can name.
 const VERSION_1_CORES: usize = 16;
 
-/// Writes initial values and a log, of one slice or of several, as a trace. Version 2 is written where version 1 has no
-/// words for the log: with more cores than it can name, or with a compare-exchange.
+/// Writes initial values and a log, of one slice or of several, as a trace. Writes version 2 if version 1 can't express
+/// the log: it has more cores than that can name, or a compare-exchange.
 pub fn write_trace<W: Write>(
     config: &Checked,
     init: &[(WordAddr, u64)],

@@ -1,5 +1,5 @@
-//! The lines of a trace after its first. The text of each is put together before it is written, since a log has one
-//! for each access.
+//! The lines of a trace after its first. The text of each is built before it is written, since a log has one for each
+//! access.
 ghost use Rattle.std.specs.Prelude.{◌≡◌, ◌+◌, ◌≤◌, [], ◌++◌, length, codes, decimal, OnOk};
 ghost use Rattle.std.specs.Fmt.{WritesInCalls};
 ghost use Rattle.litmus_text.specs.Line.{line_of_parts, text_of_parts};
@@ -19,7 +19,7 @@ use std::fmt::Write;
 /// blanks around them.
 const LINE_ROOM: usize = 192;
 
-/// The text of a line, as far as it is put together.
+/// The text of a line that is being built.
 type LineText = ArrayString<LINE_ROOM>;
 
 /// Writes the line of a word and the value that it begins with.
@@ -32,7 +32,7 @@ pub(crate) fn write_initial<W: Write>(word: WordAddr, value: u64, out: &mut W) -
     out.write_str(text.as_str())
 }
 
-/// Puts the line of an initial value together.
+/// Builds the line of an initial value.
 fn push_initial(word: WordAddr, value: u64, text: &mut LineText)
     requires { text.old.bytes ≡ [] }
     ensures { text.new.bytes ≡ line_of_parts (parts_of_line (trace_lines.Init word value)) }
@@ -53,7 +53,7 @@ pub(crate) fn write_entry<W: Write>(entry: &Entry, out: &mut W) -> fmt::Result
     out.write_str(text.as_str())
 }
 
-/// Puts the line of an entry together.
+/// Builds the line of an entry.
 fn push_entry(entry: &Entry, text: &mut LineText)
     requires { text.old.bytes ≡ [] }
     ensures { text.new.bytes ≡ line_of_parts (parts_of_line (trace_lines.Entry entry.now)) }

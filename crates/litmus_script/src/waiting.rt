@@ -81,7 +81,7 @@ fn write_slice<W: Write>(state: &SliceState<EitherFile>, out: &mut W) -> fmt::Re
     Ok(())
 }
 
-/// Writes the line of the message in front of a channel, if one waits there.
+/// Writes the line of the message at the front of a channel, if one waits there.
 fn write_front<W: Write>(state: &SliceState<EitherFile>, pick: Pick, out: &mut W) -> fmt::Result
     ensures { OnOk result (WritesInCalls W.write_str_gives out.old (text_at state.now.view pick) out.new) }
 {
@@ -99,14 +99,14 @@ fn write_front<W: Write>(state: &SliceState<EitherFile>, pick: Pick, out: &mut W
     }
 }
 
-/// Writes in which state the receiver is that a message has to wait for.
+/// Writes the state of the receiver, for a message that has to wait.
 fn write_blocked<W: Write>(state: &SliceState<EitherFile>, pick: Pick, out: &mut W) -> fmt::Result
     ensures { OnOk result ((local : Local) → local_at state.now.view.lines (line_of pick).0 ≡ Some local
         → WritesLine W.write_str_gives out.old (codes "blocked: "
         ++ receiver_state state.now.view local (channel_of pick)) out.new) }
 {
     let Some(view) = state.line_view(pick.line()) else {
-        // A line with a message is the slice's own, so this isn't met.
+        // A line with a message is the slice's own, so this can't occur.
         return Ok(());
     };
     match pick {
@@ -121,7 +121,7 @@ fn write_blocked<W: Write>(state: &SliceState<EitherFile>, pick: Pick, out: &mut
     }
 }
 
-/// The state of a core's copy.
+/// Returns the state of a core's copy.
 fn state_in(copies: &ArrayVec<CopyState, 64>, core: CoreId) -> CopyState
     ensures { (v : View) (local : Local) → copies.now.items ≡ map (λ cache. state_of cache local) v.caches
         → result ≡ state_of (cache_at v core) local }

@@ -1,4 +1,4 @@
--- What words are that write an access.
+-- Words that write an access.
 use Rattle.std.proofs.Common.{◌≡◌, ◌≢◌, ℕ, List, [], ◌∷◌, None, Some, Result, IfErr, arith, map, refl, rules}
 use Rattle.std.specs.Prelude.{codes}
 use Rattle.std.proofs.lemmas.Grind.{common_steps}

@@ -50,7 +50,7 @@ blanks_of_front text line bits front short blanks = λ k below.
     ∙ ap (λ b. cond (is_blank b) 1 0)
     (sym (get_or-take (length line) text k 0 below) ∙ ap (λ bs. get_or bs k 0) front)
 
--- the bits below the lowest that is set aren't, and where none is, none of the 64
+-- the bits below the lowest set bit are clear, and if none is set all 64 are
 pub zeros_below : (bits k : ℕ) → bits < 2 ^ 64 → k < trailing_zeros w64 bits → bit_at bits k ≡ 0
 zeros_below zero k fits below = bit_at-zero k
 zeros_below (suc n) k fits below = (bit_at-trailing_zeros w64 (suc n) (omega arith) fits).2 k below
@@ -116,7 +116,7 @@ words_of_part bs =
           rw (take_all p bs end, drop_all (p + 1) bs (omega arith), append-nil) whole
     ]
 
--- a row with the words before a place goes on with the part that begins there
+-- a row with the words before a place continues with the part that begins there
 pub row_goes_on : (row : List (List ℕ)) (line : List ℕ) (at end : ℕ)
     → end ≡ at + position_or_len is_blank (drop at line)
     → row ++ words (drop at line) ≡ words line

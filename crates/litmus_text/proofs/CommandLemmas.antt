@@ -1,4 +1,4 @@
--- What words are that write a command.
+-- Words that write a command.
 use Rattle.std.proofs.Common.{◌≡◌, ◌≢◌, ℕ, ◌-◌, ◌<◌, ◌≤◌, List, [], ◌∷◌, Result, IsErrAnd, drop, get_or, take, length}
 use Rattle.std.proofs.Common.{map, refl, arith, subst, sym, ◌∙◌}
 use Rattle.std.proofs.lemmas.List.{take_all}
@@ -206,7 +206,7 @@ issue_short config text (word ∷ []) few =
     (λ core request form. form.1) c f f
 issue_short config text (word ∷ next ∷ more) few = absurd (omega arith)
 
--- the access is at fault
+-- the access is invalid
 pub issue_access : (config : Config) (core tag : List ℕ) (access : List (List ℕ)) (fault : LineFault)
     → IsFormFaultOf parts_of_access access fault → IsFaultOfCommand config (codes "issue" ∷ core ∷ tag ∷ access) fault
 unfolding IsFaultOf

@@ -1,4 +1,4 @@
--- What is wrong with words is handed on: from some lines to those that they are a part of, and by a `?`.
+-- Faults of words propagate: from some lines to a larger set of lines, and by a `?`.
 use Rattle.std.proofs.Common.{◌≡◌, ℕ, List, [], ◌∷◌, Result, IsErrAnd, IfErr, length, map, get_or, zero, suc, ◌<◌, refl}
 use Rattle.std.proofs.Common.{sym, subst, arith}
 use Rattle.std.proofs.lemmas.Result.{err_from_is_err_and}
@@ -9,7 +9,7 @@ use Rattle.litmus_text.specs.Form.{three_parts}
 use Rattle.litmus_text.specs.Number.{IsNumber}
 use Rattle.litmus_text.proofs.FormLemmas.{HasForm-Writes}
 
--- a `?` returns the fault that it is given
+-- a `?` returns the fault unchanged
 pub handed_on : {T : Type 0} (Q : LineFault → Type 0) (fault : LineFault) (r : Result T LineFault)
     → IsErrAnd r (λ x. x ≡ fault) → Q fault → IfErr r Q
 handed_on Q fault r is holds =
@@ -75,7 +75,7 @@ form_refuses parts words line_faults.BadNumber wrong x written = wrong.1 x writt
 form_refuses parts words line_faults.OutOfRange wrong x written = wrong.1 x written tt
 form_refuses parts words other wrong x written = wrong
 
--- whatever the machine has, a number that can't be read is at fault before that
+-- a number that can't be read is reported before anything that the machine lacks
 pub fault_of_form : {X : Type 0} (parts : X → List Part) (Has : X → Type 0) (words : List (List ℕ)) (fault : LineFault)
     → IsFormFaultOf parts words fault → IsFaultOf (λ x. HasForm words (parts x)) (λ x. Writes words (parts x)) Has fault
 unfolding IsFaultOf
@@ -116,7 +116,7 @@ lacks_three words a b d Has written only none =
     (λ p w has. let e = only p.0 p.1 p.2 w in none
     (subst (λ n. Has (n, b, d)) e.0 (subst (λ m. Has (p.0, m, d)) e.1 (subst (λ k. Has (p.0, p.1, k)) e.2 has))))
 
--- as many words as numbers are wanted have their form, whatever they are
+-- `length ns` words have the form of `ns`, whatever they are
 as_many : {W : Type 0} (text : W → List ℕ) (words : List W) (ns : List ℕ) → length words ≡ length ns
     → HasForm (map text words) (map num ns)
 as_many text [] [] e = tt

@@ -1,4 +1,4 @@
--- The words with which the lines begin that configure a machine.
+-- The first words of the lines that configure a machine.
 use Rattle.std.proofs.Common.{◌≡◌, ◌≢◌, ℕ, Bool, not, List, [], ◌∷◌, Option, None, Some, map, refl, rules, subst}
 use Rattle.std.specs.Prelude.{◌↔◌, codes, IsTrue}
 use Rattle.std.specs.Option.{is_some}

@@ -1,4 +1,4 @@
--- What words are that write parts.
+-- Words that write parts.
 use Rattle.std.proofs.Common.{◌≡◌, ℕ, ◌≢◌, List, [], ◌∷◌, length, map, refl, sym, ◌∙◌, ap, suc, arith}
 use Rattle.std.proofs.lemmas.List.{length-map}
 use Rattle.litmus_text.specs.declared.config_line.ConfigLine.{ConfigLine}

@@ -1,4 +1,4 @@
--- What `position` answers, and that a search of bytes answers the same.
+-- What `position` returns, and that a search of bytes returns the same.
 use Rattle.std.proofs.Common.{◌≡◌, ℕ, ◌<◌, ◌≤◌, Bool, true, false, cond, ltb, List, length, get_or, Option, Some, None}
 use Rattle.std.proofs.Common.{inl, inr, arith}
 use Rattle.std.proofs.lemmas.Bool.Decides.{nat_tests}
@@ -23,7 +23,7 @@ at_place n k below place e = grind (arith, nat_tests)
 at_no_place : (n place : ℕ) → place ≡ n → None ≡ cond (ltb place n) (Some place) None
 at_no_place n place e = grind (arith, nat_tests)
 
--- a search for the first byte that passes answers its position
+-- a search for the first byte that passes returns its position
 pub first_byte : (test : ℕ → Bool) (bs : List ℕ) (r : Option ℕ) → IsFirstByte test bs r → r ≡ position test bs
 first_byte test bs None none =
     at_no_place (length bs) (position_or_len test bs)

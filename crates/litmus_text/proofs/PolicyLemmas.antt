@@ -1,4 +1,4 @@
--- What words are that write a replacement policy.
+-- Words that write a replacement policy.
 use Rattle.std.proofs.Common.{◌≢◌, ℕ, List, [], ◌∷◌, arith, refl}
 use Rattle.std.specs.Prelude.{codes}
 use Rattle.std.proofs.lemmas.Grind.{common_steps}

@@ -1,4 +1,4 @@
--- The text of all that there is to say of a machine, in the pieces in which it is written.
+-- The text of a machine's whole configuration, in the pieces in which it is written.
 use Rattle.std.proofs.Common.{◌≡◌, ℕ, List, ◌∷◌, ◌++◌, map, ap, append_assoc, codes, decimal, ◌∙◌}
 use Rattle.std.proofs.lemmas.Grind.{flat_map-append}
 use Rattle.address_map.specs.declared.address.WordAddr.{WordAddr}

@@ -1,4 +1,4 @@
--- What a table answers at a name.
+-- What a table returns for a name.
 use Rattle.std.proofs.Common.{inl, inr, ◌≡◌, ◌≢◌, ℕ, List, [], ◌∷◌, Option, Some, None, Bor, refl, subst, sym, ◌∙◌}
 use Rattle.std.specs.List.{find}
 use Rattle.std.specs.Option.{IfSome, IfNone, option_map}
@@ -36,7 +36,7 @@ missing (entry ∷ more) name e =
       )
     ]
 
--- what each name in the table and its value have, a name that is found and its value have
+-- what holds of each name in the table and its value holds of a name that is found and its value
 pub named : {T : Type 0} (P : List ℕ → T → Type 0) (table : List (List ℕ × T)) (name : List ℕ) (answer : Option T)
     → answer ≡ value_named table name → Each (λ entry. P entry.0 entry.1) table → IfSome answer (λ value. P name value)
 named P table name None e each = tt

@@ -1,4 +1,4 @@
--- The words with which accesses begin.
+-- The first words of accesses.
 use Rattle.std.specs.Prelude.{ℕ, List, codes}
 use Rattle.litmus_text.specs.declared.parse.Access.{Access}
 use Rattle.litmus_text.specs.declared.parse.Access.TheVariants as accesses

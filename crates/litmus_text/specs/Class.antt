@@ -1,4 +1,4 @@
--- The classes of messages, with which channels begin.
+-- The classes of messages: the first words of channels.
 use Rattle.std.specs.Prelude.{ℕ, List, codes}
 use Rattle.litmus_text.specs.declared.channel.Class.{Class}
 use Rattle.litmus_text.specs.declared.channel.Class.TheVariants as classes

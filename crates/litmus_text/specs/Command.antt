@@ -13,7 +13,7 @@ use Rattle.litmus_text.specs.declared.fault.LineFault.{LineFault}
 use Rattle.litmus_text.specs.Form.{Part, key, num, Writes, HasForm, IsFaultOf}
 use Rattle.litmus_text.specs.Look.{HasSubject, name_of_look, parts_of_subject, subject_of}
 
--- an access, by its name, its word and what else it takes
+-- an access: its name, its word and its other operands
 unfoldable pub parts_of_op : Op → ℕ → List Part
 parts_of_op ops.Load word = key (codes "load") ∷ num word ∷ []
 parts_of_op (ops.Store value) word = key (codes "store") ∷ num word ∷ num value ∷ []
@@ -24,7 +24,7 @@ parts_of_op (ops.Cas expect new) word = key (codes "cas") ∷ num word ∷ num e
 abbrev pub parts_of_access : Op × ℕ → List Part
 parts_of_access access = parts_of_op access.0 access.1
 
--- a channel, by its class, its line and its cores
+-- a channel: its class, its line and its cores
 unfoldable pub parts_of_pick : Pick → List Part
 parts_of_pick (picks.Req line core) = key (codes "req") ∷ num line.0 ∷ num core.0 ∷ []
 parts_of_pick (picks.Fwd line core) = key (codes "fwd") ∷ num line.0 ∷ num core.0 ∷ []
@@ -67,7 +67,7 @@ IsFaultOfPick config words fault =
     IsFaultOf (λ pick. HasForm words (parts_of_pick pick)) (λ pick. Writes words (parts_of_pick pick))
     (HasPick config) fault
 
--- what words are read as, at a machine of this configuration: a channel that they write, or what is wrong with them
+-- the result of reading words for a machine of this configuration: the channel that they write, or their fault
 pub record ReadsAsPick (config : Config) (words : List (List ℕ)) (result : Result Pick LineFault) : Type 0 where
   pub written : IfOk result (λ pick. Writes words (parts_of_pick pick))
   pub in_range : IfOk result (HasPick config)
@@ -91,19 +91,19 @@ HasTag command = Unit {0}
 abbrev pub Says : List (List ℕ) → Command → Type 0
 Says words command = Writes words (parts_of command) × HasTag command
 
--- what a script's line that was read says, at a machine that has all it names
+-- a line of a script was read as this command, for a machine that has all that it names
 pub record IsRead (config : Config) (words : List (List ℕ)) (command : Command) : Type 0 where
   pub written : Writes words (parts_of command)
   pub tag : HasTag command
   pub in_range : IsInRange config command
 
--- What is wrong with words that are no command of this machine. They have the form of none; or of one, but with a
--- number that can't be read or a tag that is none; or they say one that the machine lacks.
+-- What is wrong with words that are no command of this machine: they have the form of none; or of one, but with an
+-- invalid number or tag; or they say one that names what the machine lacks.
 abbrev pub IsFaultOfCommand : Config → List (List ℕ) → LineFault → Type 0
 IsFaultOfCommand config words fault =
     IsFaultOf (λ command. HasForm words (parts_of command)) (Says words) (IsInRange config) fault
 
--- what words are read as, at a machine of this configuration: a command that they write, or what is wrong with them
+-- the result of reading words for a machine of this configuration: the command that they write, or their fault
 pub record ReadsAs (config : Config) (words : List (List ℕ)) (result : Result Command LineFault) : Type 0 where
   pub read : IfOk result (IsRead config words)
   pub fault : IfErr result (IsFaultOfCommand config words)

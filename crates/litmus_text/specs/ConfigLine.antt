@@ -16,7 +16,7 @@ use Rattle.litmus_text.specs.declared.field.Field.TheVariants as fields
 use Rattle.litmus_text.specs.Field.{name_of, with_count}
 use Rattle.litmus_text.specs.Form.{Part, key, num, Writes, IsFormFaultOf}
 
--- how a replacement policy is called
+-- the name of a replacement policy
 abbrev pub name_of_policy : PolicyName → List ℕ
 name_of_policy policy_names.Lru = codes "lru"
 name_of_policy policy_names.Fifo = codes "fifo"
@@ -28,7 +28,7 @@ parts_of_policy policy_kinds.Lru = key (codes "lru") ∷ []
 parts_of_policy policy_kinds.Fifo = key (codes "fifo") ∷ []
 parts_of_policy (policy_kinds.Random seed) = key (codes "random") ∷ num seed ∷ []
 
--- how the miss registers are called
+-- the name of the miss registers
 abbrev pub name_of_misses : MissKind → List ℕ
 name_of_misses miss_kinds.Explicit = codes "explicit"
 name_of_misses miss_kinds.Inverted = codes "inverted"
@@ -36,7 +36,7 @@ name_of_misses miss_kinds.Inverted = codes "inverted"
 abbrev pub parts_of_misses : MissKind → List Part
 parts_of_misses kind = key (name_of_misses kind) ∷ []
 
--- how a setting is written that is on or off
+-- how a setting, on or off, is written
 abbrev pub name_of_setting : Bool → List ℕ
 name_of_setting true = codes "on"
 name_of_setting false = codes "off"
@@ -68,7 +68,7 @@ with_line config (config_lines.Exclusive is_on) = record config { exclusive = is
 with_line config (config_lines.Init word value) = record config { init = config.init ++ (word, value) ∷ [] }
 with_line config (config_lines.Counter word) = record config { counters = config.counters ++ word ∷ [] }
 
--- what the line makes of the settings
+-- the settings after the line
 abbrev pub after_config_line : Settings → ConfigLine → Settings
 after_config_line settings (config_lines.Misses kind) = record settings { misses = kind }
 after_config_line settings line = record settings { config = with_line settings.config line }

@@ -1,21 +1,21 @@
--- Which line a fault names, and how a program ends at it.
+-- The line that a fault names, and the exit status of a program that stops at it.
 use Rattle.std.specs.Prelude.{◌≡◌, ℕ, List, [], ◌∷◌, ◌++◌}
 use Rattle.litmus_text.specs.declared.fault.TextFault.{TextFault}
 use Rattle.litmus_text.specs.declared.fault.TextFault.TheVariants.{Line, Config, CannotWrite, NoMemory}
 
--- the exit status: 3 for want of memory, and 2 for all that is wrong with the text or its output
+-- the exit status: 3 if out of memory, and 2 for all that is wrong with the text or its output
 abbrev pub status_of : TextFault → ℕ
 status_of (Line number fault) = 2
 status_of (Config error) = 2
 status_of CannotWrite = 2
 status_of NoMemory = 3
 
--- what holds of the line that a fault names, where it names one
+-- the property holds of the line that a fault names, if it names one
 abbrev pub IsAtLine : (ℕ → Type 0) → TextFault → Type 0
 IsAtLine holds (Line number fault) = holds number
 IsAtLine holds other = Unit {0}
 
--- The first statement at fault has this number: those before it are read, and with it they are not.
+-- The first invalid statement has this number: those before it can be read, and with it they can't.
 pub record IsFirstFault (AreRead : List (ℕ × List (List ℕ)) → Type 0) (statements : List (ℕ × List (List ℕ)))
     (number : ℕ) : Type 0 where
   pub before : List (ℕ × List (List ℕ))

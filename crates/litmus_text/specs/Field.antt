@@ -1,4 +1,4 @@
--- The words with which the lines begin that configure a machine, and the numbers that some of them set.
+-- The first words of the lines that configure a machine, and the numbers that some of them set.
 use Rattle.std.specs.Prelude.{◌≡◌, ℕ, List, codes}
 use Rattle.address_map.specs.declared.config.Config.{Config}
 use Rattle.litmus_text.specs.declared.field.Count.{Count}

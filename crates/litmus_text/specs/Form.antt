@@ -26,9 +26,9 @@ HasForm (word ∷ rest) [] = ⊥
 HasForm (word ∷ rest) (key text ∷ parts) = (word ≡ text) × HasForm rest parts
 HasForm (word ∷ rest) (num n ∷ parts) = HasForm rest parts
 
--- What is wrong with words that are none of some lines, by which of these they have the form of, which they say, and
--- which the machine has. They have the form of none; or of one, but say none, since a number can't be read; or they say
--- one, but none that the machine has.
+-- What is wrong with words that are none of some lines. `Form`, `Says` and `Has` hold of the lines whose form the words
+-- have, that they say, and that the machine has. The words have the form of none; or of one, but say none, since a
+-- number can't be read; or they say one, but none that the machine has.
 unfoldable pub IsFaultOf : {X : Type 0} → (X → Type 0) → (X → Type 0) → (X → Type 0) → LineFault → Type 0
 IsFaultOf {X} Form Says Has line_faults.NotACommand = (x : X) → ¬ Form x
 IsFaultOf {X} Form Says Has line_faults.BadNumber = ((x : X) × Form x) × ((x : X) → ¬ Says x)
@@ -40,7 +40,7 @@ abbrev pub IsFormFaultOf : {X : Type 0} → (X → List Part) → List (List ℕ
 IsFormFaultOf {X} parts words fault =
     IsFaultOf (λ (x : X). HasForm words (parts x)) (λ (x : X). Writes words (parts x)) (λ (x : X). Unit {0}) fault
 
--- nothing, or so many numbers
+-- zero to three numbers
 abbrev pub no_parts : Unit {0} → List Part
 no_parts nothing = []
 

@@ -1,4 +1,4 @@
--- A number as JSON has it: one that a reader may not keep as it is, of more than 15 digits, is a string.
+-- A number in JSON: one of more than 15 digits, which a reader may round, is a string.
 use Rattle.std.specs.Prelude.{ℕ, Bool, List, ◌++◌, codes, decimal, if◌then◌else◌, nat_lt}
 
 -- it has at most 15 digits

@@ -1,4 +1,4 @@
--- What only shows something of a machine: its name, and what it is about.
+-- Commands that only show part of a machine: their names, and what they are about.
 use Rattle.std.specs.Prelude.{ℕ, ◌<◌, ◌/◌, List, [], ◌∷◌, Option, Some, None, codes}
 use Rattle.address_map.specs.Place.{line_of as line_of_word}
 use Rattle.address_map.specs.declared.address.LineAddr.{LineAddr}
@@ -11,7 +11,7 @@ use Rattle.litmus_text.specs.declared.look.MachineLook.TheVariants as machine_lo
 use Rattle.litmus_text.specs.declared.look.Subject.{Subject}
 use Rattle.litmus_text.specs.declared.look.Subject.TheVariants as subjects
 
--- the word with which its command begins
+-- the first word of its command
 abbrev pub name_of_machine_look : MachineLook → List ℕ
 name_of_machine_look machine_looks.Stats = codes "stats"
 name_of_machine_look machine_looks.Waiting = codes "waiting"
@@ -23,7 +23,7 @@ name_of_look (looks.State line) = codes "state"
 name_of_look (looks.Log slice) = codes "log"
 name_of_look (looks.Machine look) = name_of_machine_look look
 
--- what it shows something of
+-- the part that it shows
 abbrev pub subject_of : Look → Subject
 subject_of (looks.Word word) = subjects.Word word
 subject_of (looks.State line) = subjects.Line line
@@ -44,7 +44,7 @@ HasSubject config (subjects.Line line) = line.0 < config.lines
 HasSubject config (subjects.Slice slice) = slice.0 < config.slices
 HasSubject config subjects.Machine = Unit {0}
 
--- the line that it shows something of, if it is about one
+-- the line that it is about, if any
 abbrev pub line_of_look : Look → Option LineAddr
 line_of_look (looks.Word word) = Some (line_of_word word)
 line_of_look (looks.State line) = Some line

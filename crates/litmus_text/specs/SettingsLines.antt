@@ -1,4 +1,4 @@
--- The lines that say all there is to say of a machine.
+-- The lines of a machine's whole configuration.
 use Rattle.std.specs.Prelude.{ℕ, List, [], ◌∷◌, ◌++◌, map}
 use Rattle.std.specs.List.{flat_map}
 use Rattle.address_map.specs.declared.address.WordAddr.{WordAddr}
@@ -23,7 +23,7 @@ counts_of c =
 abbrev pub init_line : WordAddr × ℕ → ConfigLine
 init_line pair = config_lines.Init pair.0 pair.1
 
--- all that a text can say of a machine, each thing once
+-- the whole configuration of a machine, each setting once
 abbrev pub lines_of_settings : Config → MissKind → List ConfigLine
 lines_of_settings c misses =
     counts_of c ++ config_lines.Policy c.policy ∷ config_lines.Misses misses ∷ config_lines.Exclusive c.exclusive

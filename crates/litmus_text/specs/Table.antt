@@ -1,10 +1,10 @@
--- Values that are known by names.
+-- Named values.
 use Rattle.std.specs.Prelude.{ℕ, List, Option, option_map, map}
 use Rattle.std.specs.Borrow.{Bor}
 use Rattle.std.specs.List.{find}
 use Rattle.std.specs.Str.{bytes_eq}
 
--- the value that is under the name, which is the first that does
+-- the value of the first entry with this name
 abbrev pub value_named : {T : Type 0} → List (List ℕ × T) → List ℕ → Option T
 value_named table name = option_map (λ entry. entry.1) (find (λ entry. bytes_eq entry.0 name) table)
 

@@ -1,4 +1,4 @@
--- The words with which the commands of a script begin.
+-- The first words of a script's commands.
 use Rattle.std.specs.Prelude.{ℕ, List, codes}
 use Rattle.litmus_text.specs.Look.{name_of_machine_look}
 use Rattle.litmus_text.specs.declared.parse.Verb.{Verb}

@@ -41,7 +41,7 @@ impl Class {
     }
 }
 
-/// A channel, by its class, its line and its cores.
+/// Parses a channel: its class, its line and its cores.
 pub(super) fn parse_pick(config: &Checked, words: &[&[u8]]) -> Result<Pick, LineFault>
     ensures { ReadsAsPick config.now (map (λ w. w.now) words.now) result }
 {
@@ -61,7 +61,7 @@ pub(super) fn class_named(name: &[u8]) -> Option<Class>
     value_named(&CLASSES, name)
 }
 
-// The channel of this class whose other words these are.
+// Parses the words that follow a channel's class.
 #[tactic(auto, unfolding(crate::specs::Command::parts_of_pick, crate::specs::Command::HasPick))]
 fn parse_pick_called(config: &Checked, class: Class, words: &[&[u8]]) -> Result<Pick, LineFault>
     ensures { ReadsAsPick config.now (name_of_class class ∷ map (λ w. w.now) words.now) result }

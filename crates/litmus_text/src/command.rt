@@ -7,7 +7,7 @@ use slice_queues::Pick;
 pub enum Command {
     /// The core asks for a word.
     Issue { core: CoreId, request: Request },
-    /// The core is to let go of a line.
+    /// The core evicts a line.
     Evict { core: CoreId, line: LineAddr },
     /// The message at the front of a channel is delivered.
     Deliver(Pick),
@@ -15,6 +15,6 @@ pub enum Command {
     Hand { core: CoreId, slice: SliceId },
     /// Something is shown.
     Look(Look),
-    /// Delivers messages, by so many calls at most.
+    /// Delivers messages, with at most this many calls.
     Pump(u64),
 }

@@ -41,7 +41,7 @@ impl ConfigLine {
         value_named(&FIELDS, name).is_some()
     }
 
-    /// The configuration line that these words write.
+    /// Parses the words of a configuration line.
     pub fn parse(words: &[&[u8]]) -> Result<Self, LineFault>
         ensures written { IfOk result (λ line. Writes (map (λ w. w.now) words.now) (parts_of_config_line line)) }
         ensures only { IfOk result (λ line. (other : ConfigLine)
@@ -59,7 +59,7 @@ impl ConfigLine {
         }
     }
 
-    /// What is wrong with words that begin as a configuration line, after the configuration.
+    /// Returns what is wrong with a configuration line that follows the configuration.
     pub fn late_fault(words: &[&[u8]]) -> LineFault
         ensures { IsLateFault (map (λ w. w.now) words.now) result }
     {
@@ -69,8 +69,8 @@ impl ConfigLine {
         }
     }
 
-    /// Sets what this line names. Of lines on one field the last counts, but initial values and counters
-    /// add up, in the order of the lines. Only they take memory.
+    /// Sets what this line names. For each field the last line counts, but initial values and counters add
+    /// up, in the order of the lines. Only they allocate.
     pub fn set(self, settings: &mut Settings) -> Result<(), AllocError>
         ensures ok { OnOk result (settings.new ≡ after_config_line settings.old self) }
         ensures err { OnErr result (settings.new ≡ settings.old) }
@@ -87,7 +87,7 @@ impl ConfigLine {
     }
 }
 
-// The configuration line of this field whose other words these are.
+// Parses the words that follow the field's name.
 fn parse_called(field: Field, words: &[&[u8]]) -> Result<ConfigLine, LineFault>
     ensures written { IfOk result
         (λ line. Writes (name_of field ∷ map (λ w. w.now) words.now) (parts_of_config_line line)) }

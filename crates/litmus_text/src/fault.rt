@@ -31,7 +31,7 @@ pub enum LineFault {
     StoreToACounter,
 }
 
-/// Why a text was read no further. It displays as the text of the fault.
+/// Why reading a text stopped. It displays as the text of the fault.
 #[derive(Clone, Copy, Debug, PartialEq, Eq, Error)]
 pub enum TextFault {
     #[error("line {number}: {fault}")]
@@ -47,7 +47,7 @@ pub enum TextFault {
 impl LineFault {
     ghost use Rattle.litmus_text.specs.declared.fault.TextFault.TheVariants.{Line};
 
-    /// This fault at the line with this number, which counts from 1.
+    /// Returns this fault, at the line with this number. Lines count from 1.
     pub const fn at(self, number: usize) -> TextFault
         ensures { result ≡ Line number self }
     {
@@ -81,7 +81,7 @@ impl<T: Drop> From<AllocFailed<T>> for TextFault {
 impl TextFault {
     ghost use Rattle.litmus_text.specs.Fault.{status_of};
 
-    /// The exit status of a program that stops at this fault.
+    /// Returns the exit status of a program that stops at this fault.
     pub const fn status(&self) -> u8
         ensures { result ≡ status_of self.now }
     {

@@ -2,18 +2,18 @@
 //!
 //! - [`Lines`], [`Words`] and [`Statements`] take a text apart (specs/Text.antt, specs/Statement.antt): a statement is
 //!   a line that has words, with its number.
-//! - [`ConfigLine`] is a line that configures a machine. At Ok of [`ConfigLine::parse`] the words write that line, and
-//!   at Err they write none. [`ConfigLine::set`] sets what the line names in the [`Settings`] and nothing else
-//!   (specs/ConfigLine.antt).
-//! - [`parse_command`] reads a command of a script. At Ok the words write that command, and the machine has what it
-//!   names; at Err there is no such command (specs/Command.antt). Words that have the form of a command, with any words
-//!   for numbers, aren't refused as no command; words that write one are refused only as out of range.
-//!   [`parse_access`] reads the access in it, which traces write alike.
-//! - [`Slot::behind`] says what can follow a keyword of a script, for whoever explains a line that isn't read.
+//! - [`ConfigLine`] is a line that configures a machine. If [`ConfigLine::parse`] returns Ok the words write that line,
+//!   and if it returns Err they write none. [`ConfigLine::set`] sets what the line names in the [`Settings`], nothing
+//!   else (specs/ConfigLine.antt).
+//! - [`parse_command`] reads a command of a script. If it returns Ok the words write that command, and the machine has
+//!   what it names; if Err there is no such command (specs/Command.antt). Words that have the form of a command, with
+//!   any words for numbers, aren't refused as no command; words that write one are refused only as out of range.
+//!   [`parse_access`] reads the access in it, which traces write in the same way.
+//! - [`Slot::behind`] says what can follow a keyword of a script, to explain a line that can't be read.
 //! - [`LineFault`] and [`TextFault`] say what is wrong with a text, and with which status a program ends.
 //!
-//! No call copies a text or takes memory, but `ConfigLine::set` at an initial value or a counter. Each byte is looked
-//! at a few times.
+//! No call copies a text or allocates, except `ConfigLine::set` for an initial value or a counter. Each byte is read a
+//! few times.
 #![tactic(auto)]
 
 pub use command::Command;

@@ -5,7 +5,7 @@ ghost use Rattle.std.specs.Str.Lines.{lines};
 use memchr::memchr;
 use std::marker::Model;
 
-/// The lines of a text that are left to read.
+/// The unread lines of a text.
 #[derive(Debug, Drop)]
 pub struct Lines<'a> {
     rest: &'a [u8],
@@ -18,8 +18,8 @@ impl<'a> Model for Lines<'a> {
 }
 
 impl<'a> Lines<'a> {
-    /// The lines of a text. A line ends with a line feed, which the last one may lack; a carriage return
-    /// directly before the line feed belongs to it.
+    /// Returns the lines of a text. A line ends with a line feed, which the last one may lack; a carriage
+    /// return directly before the line feed belongs to it.
     pub const fn of(text: &'a [u8]) -> Self
         ensures value { result ≡ lines text.now }
         ensures len { length result ≤ length text.now }
@@ -27,7 +27,7 @@ impl<'a> Lines<'a> {
         Lines { rest: text }
     }
 
-    /// The next line, and the text that begins with it.
+    /// Returns the next line, and the text that begins with it.
     #[inline(always)]
     pub(super) fn read(&mut self) -> Option<(&'a [u8], &'a [u8])>
         ensures lines { MatchOption result ((self.old ≡ []) × (self.new ≡ []))
@@ -57,7 +57,7 @@ impl<'a> Iterator for Lines<'a> {
     }
 }
 
-/// The first line of a text, and what follows it.
+/// Returns the first line of a text, and what follows it.
 fn split_line(text: &[u8]) -> (&[u8], &[u8])
     requires { 0 < length text.now }
     ensures lines { lines text.now ≡ result.0.now ∷ lines result.1.now }

@@ -1,4 +1,4 @@
-//! What only shows something of a machine.
+//! Commands that only show part of a machine.
 ghost use Rattle.std.specs.Prelude.{◌≡◌};
 ghost use Rattle.litmus_text.specs.Look.{line_of_look, name_of_look, name_of_machine_look, subject_of};
 
@@ -9,11 +9,11 @@ use address_map::{LineAddr, SliceId, WordAddr};
 pub enum Look {
     /// A word of a quiet slice.
     Word(WordAddr),
-    /// What the directory and each core have of a line.
+    /// The directory's entry and each core's copy of a line.
     State(LineAddr),
     /// A slice's log, as a trace.
     Log(SliceId),
-    /// Something of all slices.
+    /// Part of all slices.
     Machine(MachineLook),
 }
 
@@ -28,7 +28,7 @@ pub enum MachineLook {
     Show,
 }
 
-/// What of a machine is looked at.
+/// The part of a machine that is shown.
 #[derive(Clone, Copy, Debug, PartialEq, Eq)]
 pub enum Subject {
     Word(WordAddr),
@@ -38,7 +38,7 @@ pub enum Subject {
 }
 
 impl Look {
-    /// The word with which its command begins.
+    /// Returns the first word of its command.
     pub const fn name(self) -> &'static str
         ensures { result.now ≡ name_of_look self }
     {
@@ -50,7 +50,7 @@ impl Look {
         }
     }
 
-    /// What it shows something of.
+    /// Returns the part that it shows.
     pub const fn subject(self) -> Subject
         ensures { result ≡ subject_of self }
     {
@@ -62,7 +62,7 @@ impl Look {
         }
     }
 
-    /// The line that it shows something of, if it is about one.
+    /// Returns the line that it is about, if any.
     pub const fn line(self) -> Option<LineAddr>
         ensures { result ≡ line_of_look self }
     {
@@ -75,7 +75,7 @@ impl Look {
 }
 
 impl MachineLook {
-    /// The word that is its command.
+    /// Returns the word that is its command.
     pub const fn name(self) -> &'static str
         ensures { result.now ≡ name_of_machine_look self }
     {

@@ -1,4 +1,4 @@
-//! The numbers that words spell, and what a machine has of them.
+//! The numbers that words spell, and whether a machine has a core, slice, line or word of that number.
 ghost use Rattle.std.specs.Prelude.{◌≡◌, ℕ, ◌+◌, ◌*◌, ◌/◌, ◌^◌, ◌<◌, [], ◌∷◌, map, IfOk, IfErr};
 ghost use Rattle.std.specs.Option.{SomeIff};
 ghost use Rattle.std.specs.Result.{OkIff};
@@ -10,17 +10,17 @@ ghost use Rattle.litmus_text.specs.Number.{IsNumber};
 use super::fault::LineFault;
 use address_map::{Checked, CoreId, LineAddr, SliceId, WordAddr};
 
-/// The most digits that a number may have.
+/// The maximum number of digits.
 const MOST_DIGITS: usize = 20;
 
-/// The number that a word spells in decimal: one to twenty digits and no sign.
+/// Parses a decimal number: one to twenty digits and no sign.
 pub fn parse_number(word: &[u8]) -> Option<u64>
     ensures { SomeIff result (IsNumber word.now) (digits_value 10 word.now) }
 {
     number(word).ok()
 }
 
-/// The number that a word has to spell.
+/// Parses a word that has to be a number.
 pub(super) fn number(word: &[u8]) -> Result<u64, LineFault>
     ensures ok { OkIff result (IsNumber word.now) (digits_value 10 word.now) }
     ensures err { IfErr result (λ fault. fault ≡ LineFault.BadNumber) }
@@ -38,7 +38,7 @@ pub(super) fn number(word: &[u8]) -> Result<u64, LineFault>
     Ok(number)
 }
 
-// The number with one more digit, where the byte is one and the number still fits.
+// Appends a digit, if the byte is one and the number still fits.
 fn with_digit(number: u64, byte: u8) -> Option<u64>
     ensures { SomeIff result ((digit_value byte < 10) × (number * 10 + digit_value byte < 2 ^ 64))
         (number * 10 + digit_value byte) }
@@ -49,7 +49,7 @@ fn with_digit(number: u64, byte: u8) -> Option<u64>
     number.checked_mul(10)?.checked_add((byte - b'0') as u64)
 }
 
-/// A tag is a number below 256.
+/// Parses a tag: a number below 256.
 pub(super) fn tag_number(word: &[u8]) -> Result<u8, LineFault>
     ensures ok { OkIff result (IsNumber word.now × (digits_value 10 word.now < 256)) (digits_value 10 word.now) }
     ensures err { IfErr result (λ fault. fault ≡ LineFault.BadNumber) }
@@ -62,7 +62,7 @@ pub(super) fn tag_number(word: &[u8]) -> Result<u8, LineFault>
     }
 }
 
-/// There are no words.
+/// Checks that there are no words.
 #[tactic(auto, using(crate::proofs::FormLemmas::wrong_count, crate::proofs::FormLemmas::wrong_form), unfolding(crate::specs::Form::IsFaultOf))]
 pub fn no_numbers(words: &[&[u8]]) -> Result<(), LineFault>
     ensures written { IfOk result (λ unit. Writes (map (λ w. w.now) words.now) []) }
@@ -75,7 +75,7 @@ pub fn no_numbers(words: &[&[u8]]) -> Result<(), LineFault>
     }
 }
 
-/// The number that is all of these words.
+/// Parses exactly one number.
 #[tactic(auto, using(crate::proofs::FormLemmas::wrong_count, crate::proofs::FormLemmas::wrong_form), unfolding(crate::specs::Form::IsFaultOf))]
 pub fn one_number(words: &[&[u8]]) -> Result<u64, LineFault>
     ensures written { IfOk result (λ n. Writes (map (λ w. w.now) words.now) (num n ∷ [])) }
@@ -89,7 +89,7 @@ pub fn one_number(words: &[&[u8]]) -> Result<u64, LineFault>
     number(word)
 }
 
-/// The two numbers that are all of these words.
+/// Parses exactly two numbers.
 #[tactic(auto, using(crate::proofs::FormLemmas::wrong_count, crate::proofs::FormLemmas::wrong_form), unfolding(crate::specs::Form::IsFaultOf))]
 pub fn two_numbers(words: &[&[u8]]) -> Result<(u64, u64), LineFault>
     ensures written { IfOk result (λ p. Writes (map (λ w. w.now) words.now) (num p.0 ∷ num p.1 ∷ [])) }
@@ -104,7 +104,7 @@ pub fn two_numbers(words: &[&[u8]]) -> Result<(u64, u64), LineFault>
     Ok((number(first)?, number(second)?))
 }
 
-/// The three numbers that are all of these words.
+/// Parses exactly three numbers.
 #[tactic(auto, using(crate::proofs::FormLemmas::wrong_count, crate::proofs::FormLemmas::wrong_form), unfolding(crate::specs::Form::IsFaultOf))]
 pub fn three_numbers(words: &[&[u8]]) -> Result<(u64, u64, u64), LineFault>
     ensures written { IfOk result (λ p. Writes (map (λ w. w.now) words.now) (num p.0 ∷ num p.1 ∷ num p.2 ∷ [])) }
@@ -120,7 +120,7 @@ pub fn three_numbers(words: &[&[u8]]) -> Result<(u64, u64, u64), LineFault>
     Ok((number(first)?, number(second)?, number(third)?))
 }
 
-/// The core with this number, where the machine has it.
+/// Returns the core with this number, if the machine has it.
 pub fn core_in(config: &Checked, number: u64) -> Result<CoreId, LineFault>
     ensures ok { OkIff result (number < config.now.cores) (record { 0 = number }) }
     ensures err { IfErr result (λ fault. fault ≡ LineFault.OutOfRange) }
@@ -132,7 +132,7 @@ pub fn core_in(config: &Checked, number: u64) -> Result<CoreId, LineFault>
     }
 }
 
-/// The slice with this number, where the machine has it.
+/// Returns the slice with this number, if the machine has it.
 pub fn slice_in(config: &Checked, number: u64) -> Result<SliceId, LineFault>
     ensures ok { OkIff result (number < config.now.slices) (record { 0 = number }) }
     ensures err { IfErr result (λ fault. fault ≡ LineFault.OutOfRange) }
@@ -144,7 +144,7 @@ pub fn slice_in(config: &Checked, number: u64) -> Result<SliceId, LineFault>
     }
 }
 
-/// The line with this number, where the machine has it.
+/// Returns the line with this number, if the machine has it.
 pub fn line_in(config: &Checked, number: u64) -> Result<LineAddr, LineFault>
     ensures ok { OkIff result (number < config.now.lines) (record { 0 = number }) }
     ensures err { IfErr result (λ fault. fault ≡ LineFault.OutOfRange) }
@@ -156,7 +156,7 @@ pub fn line_in(config: &Checked, number: u64) -> Result<LineAddr, LineFault>
     }
 }
 
-/// The word with this number, where the machine has it.
+/// Returns the word with this number, if the machine has it.
 pub fn word_in(config: &Checked, number: u64) -> Result<WordAddr, LineFault>
     ensures ok { OkIff result (number / 8 < config.now.lines) (record { 0 = number }) }
     ensures err { IfErr result (λ fault. fault ≡ LineFault.OutOfRange) }

@@ -1,4 +1,4 @@
-//! The commands of a script, and the accesses in them, which traces write alike.
+//! The commands of a script, and the accesses in them, which traces write in the same way.
 ghost use Rattle.std.specs.Prelude.{◌≡◌, ◌≢◌, ℕ, ◌∷◌, codes, IfOk, IfErr, IfSome, IfNone, map};
 ghost use Rattle.address_map.specs.declared.config.Config.{Config};
 ghost use Rattle.address_map.specs.declared.request.Op.{Op};
@@ -21,7 +21,7 @@ use super::slot::Slot;
 use super::table::value_named;
 use address_map::{Checked, Op, Request, WordAddr};
 
-/// What a line of a script asks for, by the word with which the line begins.
+/// What a line of a script asks for, by its first word.
 #[derive(Clone, Copy)]
 pub(super) enum Verb {
     Issue,
@@ -51,7 +51,7 @@ static VERBS: [(&[u8], Verb); 11] = [
 ];
 
 impl Verb {
-    /// The verb with this name.
+    /// Returns the verb with this name.
     pub(super) fn named(name: &[u8]) -> Option<Verb>
         ensures found { IfSome result (λ verb. name.now ≡ name_of_verb verb) }
         ensures none { IfNone result ((verb : Verb) → name.now ≢ name_of_verb verb) }
@@ -75,8 +75,8 @@ impl Verb {
     }
 }
 
-/// The command that a line's words write, at a machine of this configuration. The words are judged
-/// first by their keywords and their count, then as numbers, and last by what the machine has.
+/// Parses the words of a command for a machine of this configuration. Checks first the keywords and
+/// the number of words, then the numbers, and last that the machine has what they name.
 #[tactic(auto, unfolding(crate::specs::Form::IsFaultOf))]
 pub fn parse_command(config: &Checked, words: &[&[u8]]) -> Result<Command, LineFault>
     ensures read { IfOk result (IsRead config.now (map (λ w. w.now) words.now)) }
@@ -196,7 +196,7 @@ pub(super) static ACCESSES: [(&[u8], Access); 4] = [
 ];
 
 impl Access {
-    /// The slots that follow its name: the word, and what else it takes.
+    /// The slots that follow its name: the word, and its other operands.
     pub(super) const fn slots(self) -> &'static [Slot] {
         match self {
             Access::Load => &[Slot::Number],
@@ -206,7 +206,7 @@ impl Access {
     }
 }
 
-/// The access that words write, by its name, its word and what else it takes.
+/// Parses an access: its name, its word and its other operands.
 pub fn parse_access(words: &[&[u8]]) -> Result<(Op, WordAddr), LineFault>
     ensures written { IfOk result (λ p. Writes (map (λ w. w.now) words.now) (parts_of_op p.0 p.1.0)) }
     ensures refused { IfErr result (λ fault. (op : Op) (word : ℕ)
@@ -222,7 +222,7 @@ pub fn parse_access(words: &[&[u8]]) -> Result<(Op, WordAddr), LineFault>
     }
 }
 
-// The access of this name whose other words these are.
+// Parses the words that follow an access's name.
 #[tactic(auto, unfolding(crate::specs::Command::parts_of_op))]
 fn parse_access_called(access: Access, words: &[&[u8]]) -> Result<(Op, WordAddr), LineFault>
     ensures written { IfOk result

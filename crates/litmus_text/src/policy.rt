@@ -10,7 +10,7 @@ use super::slot::Slot;
 use super::table::value_named;
 use address_map::PolicyKind;
 
-/// How a replacement policy is called.
+/// The name of a replacement policy.
 #[derive(Clone, Copy)]
 pub(super) enum PolicyName {
     Lru,
@@ -35,7 +35,7 @@ impl PolicyName {
     }
 }
 
-/// A replacement policy, by its name and its seed where it has one.
+/// Parses a replacement policy: its name, and its seed if it has one.
 pub(super) fn parse_policy(words: &[&[u8]]) -> Result<PolicyKind, LineFault>
     ensures written { IfOk result (λ kind. Writes (map (λ w. w.now) words.now) (parts_of_policy kind)) }
     ensures only { IfOk result (λ kind. (other : PolicyKind)
@@ -60,7 +60,7 @@ pub(super) fn policy_named(name: &[u8]) -> Option<PolicyName>
     value_named(&POLICIES, name)
 }
 
-// The policy of this name whose other words these are.
+// Parses the words that follow a policy's name.
 fn parse_policy_called(policy: PolicyName, words: &[&[u8]]) -> Result<PolicyKind, LineFault>
     ensures written { IfOk result
         (λ kind. Writes (name_of_policy policy ∷ map (λ w. w.now) words.now) (parts_of_policy kind)) }

@@ -1,5 +1,4 @@
-//! The first words of a line. Where a short line's blanks are is known as bits, of 64 bytes of a text that are looked
-//! at at once.
+//! The first words of a line. The blanks of a short line are found as a bit mask, from 64 bytes of the text at once.
 ghost use Rattle.std.specs.Prelude.{◌≡◌, ℕ, ◌+◌, ◌<◌, ◌≤◌, ◌==◌, List, [], ◌∷◌, ◌++◌, drop, length, map, slice_index};
 ghost use Rattle.std.specs.Prelude.{take};
 ghost use Rattle.std.specs.Prelude.{if◌then◌else◌};
@@ -13,16 +12,16 @@ use super::word::Words;
 use arrayvec::ArrayVec;
 use std::simd::prelude::*;
 
-/// How many words of a line are kept: more than any line of a text may have.
+/// The number of words of a line that are kept: more than any line of a text may have.
 pub const MOST_WORDS: usize = 18;
 
-/// How many bytes are looked at at once.
+/// The number of bytes scanned at once.
 const BLOCK: usize = 64;
 
 /// The first words of a line.
 pub(super) type Row<'a> = ArrayVec<&'a [u8], MOST_WORDS>;
 
-/// The first words of a line. One that has more than are kept has none of the forms that are matched.
+/// Returns the first words of a line. A line with more words than are kept matches no form.
 pub fn first_words(line: &[u8]) -> ArrayVec<&[u8], MOST_WORDS>
     ensures { map (λ w. w.now) result.items ≡ take MOST_WORDS (words_of_line line.now) }
 {
@@ -31,7 +30,7 @@ pub fn first_words(line: &[u8]) -> ArrayVec<&[u8], MOST_WORDS>
     row
 }
 
-/// Puts the first words of a line in the place of those that a row has. The text is the line and what follows it.
+/// Replaces the words of a row with the first words of a line. The text is the line and what follows it.
 pub(super) fn fill_row<'a>(row: &mut Row<'a>, line: &'a [u8], text: &[u8])
     requires { take (length line.now) text.now ≡ line.now }
     ensures { map (λ w. w.now) row.new.items ≡ take MOST_WORDS (words_of_line line.now) }
@@ -55,7 +54,7 @@ fn fill_word_by_word<'a>(row: &mut Row<'a>, line: &'a [u8])
     }
 }
 
-/// The same for a short line, whose blanks are known.
+/// The same for a short line, with known blanks.
 fn fill_by_blanks<'a>(row: &mut Row<'a>, line: &'a [u8], blanks: u64)
     requires short { length line.now < 64 }
     requires blanks { AreBlanks blanks line.now }
@@ -73,7 +72,7 @@ fn fill_by_blanks<'a>(row: &mut Row<'a>, line: &'a [u8], blanks: u64)
     }
 }
 
-/// Adds the part between two blanks, unless they are side by side.
+/// Adds the part between two blanks, unless it is empty.
 #[inline(always)]
 fn push_part<'a>(row: &mut Row<'a>, part: &'a [u8])
     requires { length row.old.items < MOST_WORDS }
@@ -87,7 +86,7 @@ fn push_part<'a>(row: &mut Row<'a>, part: &'a [u8])
     row.push(part);
 }
 
-/// The blanks of a line: bit k is set where byte k is one. The text is the line and what follows it.
+/// Returns the blanks of a line: bit k is set if byte k is one. The text is the line and what follows it.
 #[inline(always)]
 fn blanks_of(text: &[u8]) -> u64
     requires { 64 ≤ length text.now }
@@ -97,7 +96,7 @@ fn blanks_of(text: &[u8]) -> u64
     places_of(block, b' ') | places_of(block, b'\t')
 }
 
-/// Where a byte stands in a block.
+/// Returns the positions of a byte in a block, as bits.
 #[inline(always)]
 fn places_of(block: u8x64, byte: u8) -> u64
     ensures { (k : ℕ) → k < 64 → bit_at result k ≡ (if slice_index block k == byte then 1 else 0) }
@@ -105,7 +104,7 @@ fn places_of(block: u8x64, byte: u8) -> u64
     block.simd_eq(u8x64::splat(byte)).to_bitmask()
 }
 
-/// Where the part of a line ends that begins at a place: at the next blank, or with the line.
+/// Returns the end of the part that begins at `at`: the next blank, or the line's end.
 #[inline(always)]
 fn part_end(line: &[u8], blanks: u64, at: usize) -> usize
     requires short { length line.now < 64 }
@@ -114,7 +113,7 @@ fn part_end(line: &[u8], blanks: u64, at: usize) -> usize
     ensures part { result ≡ at + position_or_len is_blank (drop at line.now) }
     ensures within { (at ≤ result) × (result ≤ length line.now) }
 {
-    // Where no bit is set, it would end after the block, and so after the line.
+    // If no bit is set, the result is past the block, and so past the line.
     let end = at + (blanks >> at).trailing_zeros() as usize;
     if end < line.len() { end } else { line.len() }
 }

@@ -14,7 +14,7 @@ pub struct Settings {
 impl Settings {
     ghost use Rattle.litmus_text.specs.Settings.{default_settings};
 
-    /// What holds where a text says nothing else: the machine of `Config::new`, with explicit miss registers.
+    /// Returns the defaults: the machine of `Config::new`, with explicit miss registers.
     pub fn new(alloc: Global) -> Self
         ensures { result ≡ default_settings }
     {

@@ -5,7 +5,7 @@ use super::parse::{ACCESSES, Verb};
 use super::policy::policy_named;
 use super::table::value_named;
 
-/// What can stand at a place of a script's line: one of some keywords, or a number.
+/// What a word of a script's line can be: one of some keywords, or a number.
 #[derive(Clone, Copy, Debug, PartialEq, Eq)]
 pub enum Slot {
     /// What the line is: a command, or a field of the configuration.
@@ -24,7 +24,7 @@ pub enum Slot {
 }
 
 impl Slot {
-    /// The places after a keyword, where it is one of those that can stand at this one.
+    /// Returns the slots after a keyword, if the keyword fits this slot.
     pub fn behind(self, keyword: &[u8]) -> Option<&'static [Slot]> {
         match self {
             Slot::Name => behind_name(keyword),

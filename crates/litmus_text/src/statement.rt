@@ -19,7 +19,7 @@ pub struct Statement<'a> {
 }
 
 impl Statement<'_> {
-    /// No statement yet: a place that statements are read into.
+    /// Returns an empty statement, to read statements into.
     pub fn blank() -> Self
         ensures { result.words.items ≡ [] }
     {
@@ -31,11 +31,11 @@ impl Statement<'_> {
     }
 }
 
-/// The statements of a text that are left to read. Lines without words are counted and skipped.
+/// The unread statements of a text. Lines without words are counted and skipped.
 #[derive(Debug, Drop)]
 pub struct Statements<'a> {
     lines: Lines<'a>,
-    /// How many lines were read.
+    /// The number of lines read.
     number: usize,
 }
 
@@ -57,8 +57,8 @@ impl<'a> Statements<'a> {
         }
     }
 
-    /// Reads the next statement into this one, and answers whether there was one. Whoever goes over a text so has one
-    /// row of words for all its lines, which is neither made anew nor copied.
+    /// Reads the next statement into this one, and returns whether there was one. The same row of words serves all
+    /// lines of a text, and is never copied.
     pub fn read(&mut self, statement: &mut Statement<'a>) -> bool
         ensures read { result ≡ true
             → self.old ≡ (statement.new.number, map (λ w. w.now) statement.new.words.items) ∷ self.new }

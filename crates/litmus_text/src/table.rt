@@ -1,7 +1,7 @@
 ghost use Rattle.std.specs.Prelude.{◌≡◌};
 ghost use Rattle.litmus_text.specs.Table.{entries, value_named};
 
-/// What stands under the name in the table.
+/// Returns the value of the name in the table.
 pub fn value_named<T: Copy>(table: &[(&[u8], T)], name: &[u8]) -> Option<T>
     ensures { result ≡ value_named (entries table.now) name.now }
 {

@@ -4,7 +4,7 @@ ghost use Rattle.litmus_text.specs.Text.{is_blank as is_blank_byte, words, words
 
 use std::marker::Model;
 
-/// The words of a line that are left to read.
+/// The unread words of a line.
 #[derive(Debug, Drop)]
 pub struct Words<'a> {
     rest: &'a [u8],
@@ -17,7 +17,7 @@ impl<'a> Model for Words<'a> {
 }
 
 impl<'a> Words<'a> {
-    /// The words of a line, which spaces and tabs part. A comment has none.
+    /// Returns the words of a line, separated by spaces and tabs. A comment has none.
     pub fn of_line(line: &'a [u8]) -> Self
         ensures { result ≡ words_of_line line.now }
     {
@@ -51,7 +51,7 @@ fn is_blank(byte: u8) -> bool
     byte == b' ' || byte == b'\t'
 }
 
-/// The first word of a text, and what follows the blank after it.
+/// Returns the first word of a text, and what follows the blank after it.
 #[inline(always)]
 fn first_word(text: &[u8]) -> Option<(&[u8], &[u8])>
     ensures { MatchOption result (words text.now ≡ []) (λ p. words text.now ≡ p.0.now ∷ words p.1.now) }

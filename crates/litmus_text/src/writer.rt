@@ -1,10 +1,10 @@
 //! Writes the lines of scripts: those that configure a machine, and its commands.
 //!
-//! A line is written as its parts, keywords and numbers, with one blank between two of them (specs/Line.antt). The
-//! parts are those by which `litmus_text` reads a line.
+//! A line is written as its parts, keywords and numbers, with one blank between two of them (specs/Line.antt).
+//! `litmus_text` reads a line as the same parts.
 //!
-//! - [`write_settings`] writes all that there is to say of a machine, each thing once.
-//! - [`write_command`] writes one command. [`Delivery`] is the command that delivers a message, without its line's end.
+//! - [`write_settings`] writes the whole configuration of a machine, each setting once.
+//! - [`write_command`] writes one command. [`Delivery`] is the command that delivers a message, without its line end.
 pub use command::write_command;
 pub use delivery::Delivery;
 pub use settings::write_settings;

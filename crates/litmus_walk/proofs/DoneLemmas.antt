@@ -42,14 +42,14 @@ set-elsewhere (z ∷ zs) zero (suc j) y other = refl
 set-elsewhere (z ∷ zs) (suc i) zero y other = refl
 set-elsewhere (z ∷ zs) (suc i) (suc j) y other = set-elsewhere zs i j y (λ same. other (ap suc same))
 
--- the steps at which threads stand, where one stands elsewhere
+-- the steps at which threads are, when one of them changes
 pub steps-set : (places : List Place) (i : ℕ) (place : Place) (step : ℕ) → place.step ≡ step
     → steps_of (slice_set places i place) ≡ slice_set (steps_of places) i step
 steps-set [] i place step is = refl
 steps-set (first ∷ places) zero place step is = ap (λ s. s ∷ steps_of places) is
 steps-set (first ∷ places) (suc i) place step is = ap (λ rest. first.step ∷ rest) (steps-set places i place step is)
 
--- .. and where it stands as before
+-- .. and when it stays as before
 pub steps-kept : (places : List Place) (i : ℕ) (old new : Place) → old ≡ get_or places i old → new.step ≡ old.step
     → steps_of (slice_set places i new) ≡ steps_of places
 steps-kept [] i old new is same = refl
@@ -58,7 +58,7 @@ steps-kept (first ∷ places) zero old new is same =
 steps-kept (first ∷ places) (suc i) old new is same =
     ap (λ rest. first.step ∷ rest) (steps-kept places i old new is same)
 
--- the step at which a thread stands
+-- the step at which a thread is
 pub steps-at : (places : List Place) (i : ℕ) (place : Place) → slice_get places i ≡ Some place
     → slice_get (steps_of places) i ≡ Some place.step
 steps-at [] i place is = absurd (subst (λ found. IsSomeAnd found (λ z. z ≡ place)) (sym is) refl)
@@ -106,7 +106,7 @@ pub done-none : (threads : List Thread) (steps : List ℕ) → AllByRecursion (�
 done-none threads steps zeros = λ number thread step is_thread is_step.
     subst (λ s. [] ≡ asking_steps (take s thread.steps.items)) (sym (zero-at steps number step zeros is_step)) refl
 
--- One thread more is at its end.
+-- One more thread is at its end.
 pub at-end-more : (threads : List Thread) (steps : List ℕ) (i : ℕ) (d : Thread)
     → ((number : ℕ) (thread : Thread) → number < i → slice_get threads number ≡ Some thread
     → slice_get steps number ≡ Some (length thread.steps.items))
@@ -141,7 +141,7 @@ done-still threads steps calls made none = λ have number thread step is_thread 
     ∙ append-nil (actions_by number calls)
     ∙ have number thread step is_thread is_step
 
--- A thread goes on after the step at which it stands, by calls that do just this.
+-- A thread goes on after the step at which it is, by calls that do just this.
 done-by : (threads : List Thread) (steps : List ℕ) (calls more : List Made) (at : StepPlace)
     (thread : Thread) (action : Action)
     → slice_get threads at.thread ≡ Some thread → slice_get thread.steps.items at.step ≡ Some action
@@ -192,7 +192,7 @@ done-made threads steps calls made at thread action noted done acts is_thread is
     ∙ ap (λ rest. actions_by number calls ++ rest) (none number differ)
     ∙ append-nil (actions_by number calls))
 
--- .. by none, where the step settles
+-- .. by none, if the step settles
 pub done-settled : (threads : List Thread) (steps : List ℕ) (calls : List Made) (at : StepPlace) (thread : Thread)
     → slice_get threads at.thread ≡ Some thread → slice_get thread.steps.items at.step ≡ Some actions.Settle
     → slice_get steps at.thread ≡ Some at.step

@@ -9,7 +9,7 @@ use Rattle.litmus_walk.specs.Drawn.{Draws, MakesAll, drawn_move}
 use Rattle.litmus_walk.specs.Moves.{Goes, WalkState, moves_of}
 use Rattle.litmus_walk.specs.declared.moves.Move.{Move}
 
--- so many moves were made, which took the generator from there to here: whatever is made after them goes on from there
+-- `count` moves were made, which took the generator from `first` to `last`: moves after them continue from there
 abbrev pub HasMade : List Thread → List LineAddr → List ℕ → List ℕ → ℕ → WalkState → WalkState → Type 0
 HasMade threads lines first last count old new =
     (end : WalkState) (more : List Move) → MakesAll threads lines last more new end
@@ -33,7 +33,7 @@ made_more threads lines first last after count start now next to made draws on g
     let (all, makes, counted) = made end (to ∷ more) (next, draws, goes, behind) in
     (all, makes, counted ∙ omega arith)
 
--- no move may come next, or as many were made as may be
+-- no move may come next, or `most` moves were made
 pub all_made : (threads : List Thread) (lines : List LineAddr) (seed most count : ℕ) (last : List ℕ)
     (start end : WalkState)
     → HasMade threads lines (of_seed (splitmix_seed 32 seed)) last count start end

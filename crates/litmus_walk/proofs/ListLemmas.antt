@@ -31,7 +31,7 @@ module _ {X : Type 0} (f : ℕ → X) where
       one-more all now new (map f rest) (f i)
       (whole ∙ ap (λ numbers. now ++ map f numbers) (range-next i n below)) pushed
 
-  -- .. where it passes the test, and the list is as it was where it doesn't
+  -- .. if it passes the test, and else the list is unchanged
   pub passing-more : (test : ℕ → Bool) (all now new : List X) (i n : ℕ) → i < n
       → all ≡ now ++ map f (filter test (range_with_len i (n - i))) → test i ≡ true → new ≡ now ++ f i ∷ []
       → all ≡ new ++ map f (filter test (range_with_len (i + 1) (n - (i + 1))))
@@ -60,7 +60,7 @@ module _ {X Y : Type 0} where
       some-more all now new (f (get_or xs i d)) (flat_map f (drop (i + 1) xs))
       (whole ∙ ap (λ rest. now ++ flat_map f rest) (drop_more xs i d below)) pushed
 
-  -- .. where something comes of it, and the list is as it was where nothing does
+  -- .. if something comes of it, and else the list is unchanged
   pub found-more : (f : X → Option Y) (all now new : List Y) (xs : List X) (i : ℕ) (d : X) (y : Y) → i < length xs
       → all ≡ now ++ filter_map f (drop i xs) → Some y ≡ f (get_or xs i d) → new ≡ now ++ y ∷ []
       → all ≡ new ++ filter_map f (drop (i + 1) xs)

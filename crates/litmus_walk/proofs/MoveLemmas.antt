@@ -11,7 +11,7 @@ use Rattle.litmus_walk.specs.Moves.{Hands, HandsTo, WalkState, after_hand}
 use Rattle.litmus_walk.specs.Walk.{Makes}
 use Rattle.litmus_walk.specs.declared.walker.Reply.{Reply}
 
--- a reply is handed out
+-- a reply is delivered to its core
 pub hands-one : (threads : List Thread) (number : ℕ) (reply : Reply) (thread : Thread) (slice : SliceId)
     (given : Option Numbered) (old new : WalkState)
     → slice_get old.replies number ≡ Some reply → slice_get threads reply.thread ≡ Some thread

@@ -1,4 +1,4 @@
--- How far a walk has come with the steps of its threads.
+-- The steps that the threads of a walk have done.
 use Rattle.std.specs.Prelude.{◌≡◌, ℕ, ◌==◌, ◌&&◌, Bool, true, false, if◌then◌else◌, List, [], ◌∷◌, ◌++◌, Option, Some}
 use Rattle.std.specs.Prelude.{None, length, map, slice_get, take}
 use Rattle.litmus_script.specs.declared.answers.Issued.{Issued}
@@ -12,13 +12,13 @@ use Rattle.litmus_walk.specs.declared.place.Place.{Place}
 use Rattle.litmus_walk.specs.declared.place.StepPlace.{StepPlace}
 use Rattle.litmus_walk.specs.declared.recorded.Made.{Made}
 
--- an access is done that is performed or waits for messages; one that stalls is asked for again
+-- an access that is performed or waits for messages is done; one that stalls is retried
 abbrev pub is_done : Issued → Bool
 is_done (issued_kinds.Done number reply) = true
 is_done (issued_kinds.Pending seq) = true
 is_done issued = false
 
--- the steps that ask for something: one that settles asks for nothing
+-- the steps that make a request: one that settles makes none
 abbrev pub asking_steps : List Action → List Action
 asking_steps [] = []
 asking_steps (actions.Settle ∷ steps) = asking_steps steps
@@ -30,7 +30,7 @@ actions_of (commands.Issue core request) = actions.Access request.word request.o
 actions_of (commands.Evict core line) = actions.Evict line ∷ []
 actions_of command = []
 
--- .. where it is one of this thread, and is done
+-- .. if it is one of this thread, and is done
 abbrev pub actions_at : ℕ → Bool → Option StepPlace → Command → List Action
 actions_at thread done None command = []
 actions_at thread done (Some at) command = if done && at.thread == thread then actions_of command else []
@@ -40,28 +40,28 @@ abbrev pub actions_by : ℕ → List Made → List Action
 actions_by thread [] = []
 actions_by thread (made ∷ calls) = actions_at thread made.done made.step made.command ++ actions_by thread calls
 
--- the step at which each thread stands
+-- the step at which each thread is
 abbrev pub steps_of : List Place → List ℕ
 steps_of places = map (λ place. place.step) places
 
--- Each thread has done the steps before the one at which it stands, in order and each once.
+-- Each thread has done the steps before the one at which it is, in order and each once.
 abbrev pub HaveDone : List Thread → List ℕ → List Made → Type 0
 HaveDone threads steps calls =
     (number : ℕ) (thread : Thread) (step : ℕ) → slice_get threads number ≡ Some thread
     → slice_get steps number ≡ Some step
     → actions_by number calls ≡ asking_steps (take step thread.steps.items)
 
--- Each thread has done all its steps that ask for something, in order and each once.
+-- Each thread has done all its steps that make a request, in order and each once.
 abbrev pub AreDone : List Thread → List Made → Type 0
 AreDone threads calls =
     (number : ℕ) (thread : Thread) → slice_get threads number ≡ Some thread
     → actions_by number calls ≡ asking_steps thread.steps.items
 
--- where they had done so, they have done so still
+-- if they had done so, they still have
 abbrev pub GoesOn : List Thread → List ℕ → List Made → List ℕ → List Made → Type 0
 GoesOn threads steps calls new_steps new_calls = HaveDone threads steps calls → HaveDone threads new_steps new_calls
 
--- each thread follows its last step
+-- each thread is past its last step
 abbrev pub AreAtEnd : List Thread → List ℕ → Type 0
 AreAtEnd threads steps =
     (number : ℕ) (thread : Thread) → slice_get threads number ≡ Some thread

@@ -1,4 +1,4 @@
--- What may come next in a walk, and what each move does.
+-- The moves that may come next in a walk, and what each does.
 use Rattle.std.specs.Prelude.{◌≡◌, ℕ, ◌+◌, ◌==◌, ◌%◌, Bool, true, false, not, List, [], ◌++◌, length, map, filter, drop}
 use Rattle.std.specs.Prelude.{filter_map, position, slice_get, slice_set, swap_remove, Option, Some, None, is_some}
 use Rattle.std.specs.List.{flat_map, list_all, range_with_len}
@@ -36,7 +36,7 @@ use Rattle.slice_queues.specs.Pick.{line_of, pick_at}
 use Rattle.slice_queues.specs.declared.channel.Channel.{Channel}
 use Rattle.slice_queues.specs.declared.channel.Pick.{Pick}
 
--- a walk on its way: the machine with the calls that were made of it, where each thread is, and the replies that wait
+-- a walk in progress: the machine with the calls that were made to it, where each thread is, and the waiting replies
 pub record WalkState : Type 0 where
   pub walk : WalkView
   pub places : List Place
@@ -47,22 +47,22 @@ state_of walk places replies = record { walk = walk; places = places; replies = 
 
 -- ---- what may come next
 
--- the lowest tag under which a thread that is there waits for nothing
+-- the lowest tag under which a thread at this place awaits no reply
 abbrev pub free_tag : Place → Option ℕ
 free_tag place = position not place.waits
 
--- no reply is waited for
+-- no reply is awaited
 abbrev pub is_settled : Place → Bool
 is_settled place = list_all not place.waits
 
--- The next step may be made: there is one, an access has a free tag, and who settles waits for nothing.
+-- The next step may be made: there is one, an access has a free tag, and a thread that settles awaits no reply.
 abbrev pub can_step : Place → Option Action → Bool
 can_step place (Some (actions.Access word op)) = is_some (free_tag place)
 can_step place (Some actions.Settle) = is_settled place
 can_step place (Some (actions.Evict line)) = true
 can_step place None = false
 
--- .. of a thread that is there
+-- .. of a thread at this place
 abbrev pub can_go : Option Thread → Option Place → Bool
 can_go (Some thread) (Some place) = can_step place (slice_get thread.steps.items place.step)
 can_go thread place = false
@@ -91,7 +91,7 @@ abbrev pub deliveries_at : WalkView → LineAddr → List Move
 deliveries_at walk line =
     map (λ channel. moves.Deliver (pick_at line channel)) (waiting_at walk.config walk.slices line)
 
--- What may come next: steps, deliveries line by line, and a hand-out of each reply that waits.
+-- The moves that may come next: steps, deliveries line by line, and a hand-out of each waiting reply.
 abbrev pub moves_of : List Thread → List LineAddr → WalkState → List Move
 moves_of threads lines state =
     steps_in threads state.places ++ flat_map (deliveries_at state.walk) lines
@@ -108,18 +108,18 @@ with_change_at thread change places =
 abbrev pub gone_behind : StepPlace → List Place → List Place
 gone_behind at places = with_change_at at.thread (λ place. record place { step = at.step + 1 }) places
 
--- the thread waits for a reply under the tag, or no more
+-- the thread awaits a reply under the tag, or no longer does
 abbrev pub with_waiting : ℕ → Bool → Place → Place
 with_waiting tag waits place = record place { waits = slice_set place.waits tag waits }
 
--- An access that is done at once goes on, one that is pending also waits for its reply, and any other is made again.
+-- A thread goes on after an access that is done at once, also awaits the reply if it is pending, and else retries it.
 abbrev pub after_access : Issued → StepPlace → ℕ → List Place → List Place
 after_access (issued_kinds.Done number reply) at tag places = gone_behind at places
 after_access (issued_kinds.Pending seq) at tag places =
     gone_behind at (with_change_at at.thread (with_waiting tag true) places)
 after_access issued at tag places = places
 
--- the access is asked for under this tag, if there is one
+-- the access is made under this tag, if there is one
 abbrev pub Accesses : Thread → StepPlace → WordAddr → Op → Option ℕ → WalkState → WalkState → Type 0
 Accesses thread at word op None old new = new ≡ old
 Accesses thread at word op (Some tag) old new =
@@ -142,19 +142,19 @@ Takes thread place at (Some (actions.Evict line)) old new =
     × (new.places ≡ gone_behind at old.places) × (new.replies ≡ old.replies)
 Takes thread place at None old new = new ≡ old
 
--- the next step of a thread that is there is made
+-- the next step of a thread at this place is made
 abbrev pub Steps : ℕ → Option Thread → Option Place → WalkState → WalkState → Type 0
 Steps number (Some thread) (Some place) old new =
     Takes thread place (record { thread = number; step = place.step }) (slice_get thread.steps.items place.step) old new
 Steps number thread place old new = new ≡ old
 
--- the reply of an access that was performed, where its core has a thread
+-- the reply of an access that was performed, if its core has a thread
 abbrev pub reply_to : List Thread → Entry → Option Reply
 reply_to threads entry =
     option_map (λ number. record { thread = number; line = line_of_word entry.word })
     (position (λ thread. thread.core.0 == entry.core.0) threads)
 
--- a message is delivered, and what it lets be performed has replies that wait
+-- a message is delivered, and the replies of the accesses that this performs wait
 pub record Delivers (threads : List Thread) (pick : Pick) (old new : WalkState) : Type 0 where
   pub made : Makes old.walk (record { command = commands.Deliver pick; step = None; done = true }) new.walk
   pub places : new.places ≡ old.places
@@ -162,12 +162,12 @@ pub record Delivers (threads : List Thread) (pick : Pick) (old new : WalkState) 
       → new.replies ≡ old.replies ++ filter_map (reply_to threads)
       (drop (length (log_at old.walk.slices slice)) (log_at new.walk.slices slice))
 
--- who was given a reply waits for it no more
+-- a thread that was given a reply no longer awaits it
 abbrev pub after_hand : ℕ → Option Numbered → List Place → List Place
 after_hand thread None places = places
 after_hand thread (Some given) places = with_change_at thread (with_waiting given.entry.tag false) places
 
--- the reply is handed out to its thread
+-- the reply is delivered to its thread
 abbrev pub HandsTo : Option Thread → Reply → List Reply → WalkState → WalkState → Type 0
 HandsTo None reply left old new = new ≡ record old { replies = left }
 HandsTo (Some thread) reply left old new =
@@ -181,7 +181,7 @@ HandsTo (Some thread) reply left old new =
     }) new.walk
     × (new.places ≡ after_hand reply.thread given old.places) × (new.replies ≡ left)
 
--- the reply of this number is, and the last of those that wait takes its place
+-- the reply of this number is, and the last waiting reply takes its place
 abbrev pub Hands : List Thread → ℕ → Option Reply → WalkState → WalkState → Type 0
 Hands threads number None old new = new ≡ old
 Hands threads number (Some reply) old new =

@@ -18,7 +18,7 @@ use Rattle.slice_core_spec.specs.View.{IsQuiet}
 use Rattle.litmus_text.specs.Line.{line_of_parts}
 use Rattle.litmus_text.specs.SettingsLines.{lines_of_settings, text_of_lines}
 
--- a comment that names the step which makes the call, if one does
+-- a comment that names the step that makes the call, if one does
 abbrev pub text_of_step : Option StepPlace → List ℕ
 text_of_step None = []
 text_of_step (Some at) =
@@ -40,8 +40,8 @@ abbrev pub status_of : End → ℕ
 status_of ends.Over = 0
 status_of end = 1
 
--- The walk that the seed draws, with `most` moves at most, is printed as a script, after what was written before. Status
--- 0 says that it is over.
+-- The walk that the seed draws, with at most `most` moves, is printed as a script, after what was written before. Status
+-- 0 means that it is over.
 pub record PrintsWalk (test : LitmusTest) (bound : Bound) (seed most status : ℕ) (before after : Option (List ℕ)) :
     Type 0
   where

@@ -1,13 +1,13 @@
 //! Runs litmus tests without threads, in an order that a seed draws.
 //!
-//! A round is a walk: at each turn one of the possible moves is drawn, each as likely as the others ([`Xoshiro256++`]
-//! of the round's seed): the next step of a thread, a delivery at a channel in which a message waits, or a hand-out of
-//! a reply that waits. It ends where there is no move left, or is given up after so many ([`End`]). So the same seed
-//! walks the same way on every machine.
+//! A round is a walk: at each turn one of the possible moves is drawn, each with equal probability ([`Xoshiro256++`]
+//! of the round's seed): the next step of a thread, a delivery at a channel in which a message waits, or the delivery
+//! of a waiting reply to its core. It ends when no move is left, or is given up after a maximum number ([`End`]). So
+//! the same seed walks the same way on every machine.
 //!
-//! - src/recorded.rt: a machine that keeps the calls that were made of it. Each call appends itself, and what the
-//!   slices are is what those calls make of new ones (`Plays` of specs/Walk.antt).
-//! - src/walker.rt and src/moves.rt: where the threads are, and what may be done next.
+//! - src/recorded.rt: a machine that records the calls made to it. Each call appends itself, and the slices are what
+//!   those calls make of new ones (`Plays` of specs/Walk.antt).
+//! - src/walker.rt and src/moves.rt: where the threads are, and which moves may come next.
 //! - src/script.rt prints a walk as a script: all that configures the machine, and each call, in order
 //!   (specs/Script.antt).
 //!

@@ -12,19 +12,19 @@ use litmus_test::{Action, LitmusTest, Thread};
 use slice_core::{LineWaiting, Pick};
 use std::alloc::{AllocError, Global};
 
-/// What may be done next.
+/// A move that may come next.
 #[derive(Clone, Copy)]
 pub(crate) enum Move {
     /// The next step of the thread of this number.
     Step(usize),
     Deliver(Pick),
-    /// The reply of this number, of those that wait, is handed out.
+    /// The waiting reply of this number is delivered to its core.
     Hand(usize),
 }
 
 impl Walker {
-    /// Lists what may be done next: the steps in the order of the threads, the deliveries line by line, and the
-    /// hand-outs.
+    /// Lists the moves that may come next: the steps in the order of the threads, the deliveries line by line, and
+    /// the hand-outs.
     pub fn list_moves(
         &self,
         test: &LitmusTest<'_>,
@@ -107,8 +107,8 @@ fn push_hands(replies: &[Reply], moves: &mut Vec<Move>) -> Result<(), AllocError
     Ok(())
 }
 
-// Whether a thread that is there may make this step, its next: an access has a free tag, and who settles waits for
-// nothing.
+// Whether a thread at this place may make this step, its next: an access needs a free tag, and to settle no reply
+// may be awaited.
 fn can_step(place: &Place, step: Option<&Action>) -> bool
     ensures { result ≡ can_step place.now (option_map (λ step. step.now) step.entry) }
 {
@@ -120,7 +120,7 @@ fn can_step(place: &Place, step: Option<&Action>) -> bool
     }
 }
 
-/// The lines that a test names, each once, in the order in which each is named first. Messages are for these lines alone.
+/// Returns the lines that a test names, each once, in the order of their first mention. Messages are for these alone.
 pub fn named_lines(alloc: Global, test: &LitmusTest<'_>) -> Result<Vec<LineAddr>, AllocError>
     ensures { IfOk result (λ lines. lines.items ≡ lines_of test.now) }
 {

@@ -9,7 +9,7 @@ pub struct StepPlace {
     pub step: usize,
 }
 
-/// How far a thread is, and under which tags its core waits for replies.
+/// The next step of a thread, and the tags under which its core waits for replies.
 #[derive(Clone, Copy)]
 pub(crate) struct Place {
     pub step: usize,
@@ -17,7 +17,7 @@ pub(crate) struct Place {
 }
 
 impl Place {
-    /// Before the first step.
+    /// Returns the place before the first step.
     pub fn first() -> Self
         ensures { result ≡ first_place }
     {
@@ -27,7 +27,7 @@ impl Place {
         }
     }
 
-    /// The lowest tag under which nothing is waited for.
+    /// Returns the lowest tag under which no reply is awaited.
     pub fn free_tag(&self) -> Option<u8>
         ensures tag { result ≡ free_tag self.now }
         ensures known { IfSome result (λ tag. tag < 64) }
@@ -36,14 +36,14 @@ impl Place {
         Some(tag as u8)
     }
 
-    /// Whether no reply is waited for.
+    /// Whether no reply is awaited.
     pub fn is_settled(&self) -> bool
         ensures { result ≡ is_settled self.now }
     {
         self.waits.iter().all(|waits| !*waits)
     }
 
-    /// The step of this number is done.
+    /// Moves on after the step of this number.
     pub fn go_behind(&mut self, step: usize)
         requires { step + 1 < 2 ^ 64 }
         ensures { self.new ≡ record self.old { step = step + 1 } }
@@ -51,7 +51,7 @@ impl Place {
         self.step = step + 1;
     }
 
-    /// A reply is waited for under the tag, or no more.
+    /// Sets whether a reply is awaited under the tag.
     pub fn set_waiting(&mut self, tag: u8, waits: bool)
         ensures { self.new ≡ with_waiting tag waits self.old }
     {

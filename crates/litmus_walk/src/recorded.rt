@@ -23,12 +23,12 @@ use slice_core::{Entry, LineWaiting, Numbered, Pick};
 use std::alloc::{AllocError, Global};
 use std::marker::Model;
 
-/// A call that was made of a machine, and the step that made it, if it was one.
+/// A call that was made to a machine, and the step that made it, if any.
 #[derive(Clone, Copy, Debug, PartialEq, Eq)]
 pub struct Made {
     pub command: Command,
     pub step: Option<StepPlace>,
-    /// Whether the step is done by it. An access that stalls is asked for again.
+    /// Whether the call completes the step. An access that stalls is retried.
     pub done: bool,
 }
 
@@ -54,7 +54,7 @@ impl Made {
     }
 }
 
-/// A machine with the calls that were made of it, in order.
+/// A machine with the calls that were made to it, in order.
 #[derive(Drop)]
 pub struct Recorded {
     machine: Machine,
@@ -72,7 +72,7 @@ impl Model for Recorded {
 impl Recorded {
     ghost use Rattle.litmus_walk.specs.Walk.{IsFresh};
 
-    /// A new machine, of which no call was made yet.
+    /// Creates a new machine, without calls.
     pub fn new(alloc: Global, config: Checked, misses: MissKind) -> Result<Self, AllocError>
         ensures { IfOk result (IsFresh config (bound_of misses config)) }
     {
@@ -144,21 +144,21 @@ impl Recorded {
         Ok(self.machine.hand(core, slice))
     }
 
-    /// The calls that were made.
+    /// Returns the calls that were made.
     pub fn calls(&self) -> &[Made]
         ensures { result.now ≡ self.now.calls }
     {
         &self.calls
     }
 
-    /// The channels of a line in which a message waits.
+    /// Returns the channels of a line in which a message waits.
     pub fn waiting_at(&self, line: LineAddr) -> Option<LineWaiting<'_>>
         ensures { unwrap_or result [] ≡ waiting_at self.now.config self.now.slices line }
     {
         self.machine.waiting_at(line)
     }
 
-    /// The slice of a line.
+    /// Returns the slice of a line.
     pub fn slice_of(&self, line: LineAddr) -> SliceId
         ensures slice { result.0 ≡ line.0 % self.now.config.slices }
         ensures known { result.0 < self.now.config.slices }
@@ -166,14 +166,14 @@ impl Recorded {
         SliceId(self.machine.slice_of(line) as u8)
     }
 
-    /// What a slice has performed.
+    /// Returns what a slice has performed.
     pub fn log_of(&self, slice: SliceId) -> &[Entry]
         ensures { result.now ≡ log_at self.now.slices slice.0 }
     {
         self.machine.log_of(slice)
     }
 
-    /// The value of a word of the memory, where its slice is quiet.
+    /// Returns the value of a word of the memory, if its slice is quiet.
     pub fn word_now(&self, word: WordAddr) -> Option<u64>
         requires { word.0 / 8 < self.now.config.lines }
         ensures quiet { IfSome result (IsQuietWord self.now.slices (word.0 / 8 % self.now.config.slices) word) }
@@ -182,7 +182,7 @@ impl Recorded {
         self.machine.word_now(word)
     }
 
-    /// Whether nothing is in flight and each reply is handed out.
+    /// Whether nothing is in flight and each reply was delivered to its core.
     pub fn is_quiet(&self) -> bool
         ensures { IsTrue result ↔ All (λ state. IsQuiet state.view) self.now.slices }
     {

@@ -22,16 +22,16 @@ use std::alloc::{AllocError, Global};
 /// How a walk ends.
 #[derive(Clone, Copy, Debug, PartialEq, Eq)]
 pub enum End {
-    /// All threads are done, nothing is in flight and each reply is handed out.
+    /// All threads are done, nothing is in flight and each reply was delivered to its core.
     Over,
     /// It isn't over, and no move may come next.
     Stuck,
-    /// It isn't over and some move may come next, but it has made as many as it may.
+    /// It isn't over and some move may come next, but it has made the maximum number of moves.
     GaveUp,
 }
 
 impl End {
-    /// The exit status of a program whose walk ends so.
+    /// Returns the exit status of a program whose walk ends so.
     pub(crate) const fn status(self) -> u8
         ensures { result ≡ status_of self }
     {
@@ -49,8 +49,7 @@ pub struct Walked {
     pub end: End,
 }
 
-/// Walks through the test, by the moves that the seed draws, of which it makes `most` at most. All messages are for
-/// these lines.
+/// Walks through the test, by at most `most` moves that the seed draws. All messages are for these lines.
 pub fn walk(
     alloc: Global,
     test: &LitmusTest<'_>,
@@ -75,7 +74,7 @@ pub fn walk(
     Ok(Walked { recorded, end })
 }
 
-// How a walk ends that goes no further.
+// Returns how a walk that goes no further ends.
 fn end_of(
     alloc: Global,
     test: &LitmusTest<'_>,
@@ -97,7 +96,7 @@ fn end_of(
     }
 }
 
-// Makes moves up to where none may come next, or `most` of them.
+// Makes moves until none may come next, or `most` of them.
 fn walk_on(
     alloc: Global,
     test: &LitmusTest<'_>,
@@ -127,7 +126,7 @@ fn walk_on(
     Ok(())
 }
 
-// One of the moves, each as likely as the others, by the generator's next word.
+// Draws one of the moves by the generator's next word, each with equal probability.
 fn draw(generator: &mut Xoshiro256PlusPlus, moves: &[Move]) -> Option<Move>
     ensures some { IfSome result (λ to. drawn_move (plus_plus generator.old).0 moves.now ≡ Some to) }
     ensures next { IfSome result (λ to. generator.new ≡ (plus_plus generator.old).1) }

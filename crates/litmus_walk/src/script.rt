@@ -18,7 +18,7 @@ use std::alloc::Global;
 use std::fmt::Write;
 use std::{fmt, io};
 
-/// Prints the walk that this seed draws, with `most` moves at most, as a script. Returns the exit status, which is 1 where
+/// Prints the walk that this seed draws, with at most `most` moves, as a script. Returns the exit status, which is 1 if
 /// the walk is stuck or was given up.
 pub fn write_walk<W: io::Write>(
     alloc: Global,
@@ -54,8 +54,8 @@ fn print_script<W: io::Write>(
     }
 }
 
-/// Writes these calls of a new machine as a script: first what configures the machine, then each call, after a comment
-/// where a step made it.
+/// Writes these calls of a new machine as a script: first its configuration, then each call, after a comment if a step
+/// made it.
 pub(crate) fn write_script<W: Write>(
     config: &Checked,
     misses: MissKind,

@@ -19,14 +19,14 @@ use litmus_test::{Action, LitmusTest, Thread};
 use slice_core::{Entry, Pick};
 use std::alloc::{AllocError, Global};
 
-/// A reply that waits for a thread's core, to an access to a word of the line.
+/// A reply that waits for a thread's core, for an access to a word of the line.
 #[derive(Clone, Copy)]
 pub(crate) struct Reply {
     pub thread: usize,
     pub line: LineAddr,
 }
 
-/// A walk on its way: the machine, where each thread is, and the replies that wait.
+/// A walk in progress: the machine, where each thread is, and the replies that wait.
 #[derive(Drop)]
 pub(crate) struct Walker {
     pub recorded: Recorded,
@@ -35,7 +35,7 @@ pub(crate) struct Walker {
 }
 
 impl Walker {
-    /// Each thread of the test stands before its first step.
+    /// Creates a walk with each thread of the test before its first step.
     pub fn new(alloc: Global, test: &LitmusTest<'_>, recorded: Recorded) -> Result<Self, AllocError>
         ensures recorded { IfOk result (λ walker. walker.recorded ≡ recorded) }
         ensures first { IfOk result (λ walker.
@@ -99,7 +99,7 @@ impl Walker {
         }
     }
 
-    /// Asks for the word under the lowest free tag. An access that stalls is tried again.
+    /// Accesses the word under the lowest free tag. An access that stalls is retried.
     fn access(
         &mut self,
         program: &Thread,
@@ -139,7 +139,7 @@ impl Walker {
         Ok(())
     }
 
-    // The lowest tag under which the thread waits for nothing.
+    // Returns the lowest tag under which the thread awaits no reply.
     fn free_tag(&self, thread: usize) -> Option<u8>
         ensures tag { result ≡ option_and_then free_tag (slice_get self.now.places.items thread) }
         ensures known { IfSome result (λ tag. tag < 64) }
@@ -147,7 +147,7 @@ impl Walker {
         self.places.get(thread)?.free_tag()
     }
 
-    // The thread goes on after the step.
+    // Moves the thread on after the step.
     fn done(&mut self, at: StepPlace)
         requires { at.step + 1 < 2 ^ 64 }
         ensures recorded { self.new.recorded ≡ self.old.recorded }
@@ -161,7 +161,7 @@ impl Walker {
         }
     }
 
-    // The thread waits for a reply under the tag, or no more.
+    // Sets whether the thread awaits a reply under the tag.
     fn set_waiting(&mut self, thread: usize, tag: u8, waits: bool)
         ensures recorded { self.new.recorded ≡ self.old.recorded }
         ensures steps { steps_of self.new.places.items ≡ steps_of self.old.places.items }
@@ -173,7 +173,7 @@ impl Walker {
         }
     }
 
-    /// Delivers a message. What it lets be performed has replies that wait.
+    /// Delivers a message. The replies of the accesses that this performs wait.
     fn deliver(&mut self, test: &LitmusTest<'_>, pick: Pick) -> Result<(), AllocError>
         ensures walks { OnOk result (Walks test.now.threads.items self.old.recorded self.new.recorded) }
         ensures done { OnOk result (GoesOn test.now.threads.items
@@ -215,7 +215,7 @@ impl Walker {
         Ok(())
     }
 
-    /// Whether all threads are done, nothing is in flight and each reply is handed out.
+    /// Whether all threads are done, nothing is in flight and each reply was delivered to its core.
     pub fn is_over(&self, test: &LitmusTest<'_>) -> bool
         ensures { IsTrue result ↔ AreAtEnd test.now.threads.items (steps_of self.now.places.items)
             × All (λ state. IsQuiet state.view) self.now.recorded.slices }
@@ -223,7 +223,7 @@ impl Walker {
         self.are_at_end(test) && self.recorded.is_quiet()
     }
 
-    // Whether each thread follows its last step.
+    // Whether each thread is past its last step.
     fn are_at_end(&self, test: &LitmusTest<'_>) -> bool
         ensures { IsTrue result ↔ AreAtEnd test.now.threads.items (steps_of self.now.places.items) }
     {
@@ -246,7 +246,7 @@ impl Walker {
     }
 }
 
-// What was performed after so many entries.
+// Returns what was performed after the first `before` entries.
 fn behind(log: &[Entry], before: usize) -> &[Entry]
     ensures { result.now ≡ drop before log.now }
 {
@@ -275,7 +275,7 @@ fn push_replies(
     Ok(())
 }
 
-// The reply of an access that was performed, where its core has a thread.
+// Returns the reply of an access that was performed, if its core has a thread.
 fn reply_to(threads: &[Thread], entry: &Entry) -> Option<Reply>
     ensures { result ≡ reply_to threads.now entry.now }
 {

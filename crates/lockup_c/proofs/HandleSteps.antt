@@ -56,7 +56,7 @@ FromParts = plain (λ _. Parts)
 abbrev pub FromHandle : Slot 0
 FromHandle = plain (λ _. Handle)
 
--- a pointer beside the allocator's handle
+-- a pointer together with the allocator's handle
 abbrev pub both : Val → Val → Val
 both v w = vstruct (vcons v (vcons w vnil))
 

@@ -66,7 +66,7 @@ OrNoMemory code Seen Nothing = Seen ⊎ ((code ≡ 3) × Nothing)
 
 -- ---- steps
 
--- the core's access was answered, and this became of it
+-- the core's access got an answer, and this became of it
 pub record IsIssuedAs (named : CoreId × Request) (numbers : IssuedNumbers) (old new : Simulator) : Type 0 where
   pub config : config_of new ≡ config_of old
   pub issued : Issued

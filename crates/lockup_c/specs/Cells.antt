@@ -23,7 +23,7 @@ command_named config (askeds.Evict core line) =
 command_named config (askeds.Deliver channel line core from) =
     option_map commands.Deliver (pick_named config channel line core from)
 
--- as many as there are cells where there is none
+-- the number of cells, where there is none
 abbrev pub no_cell : ℕ
 no_cell = 94
 

@@ -1,4 +1,4 @@
--- What the exports do that judge a trace as it comes. Where an allocation fails the trace ends: the handle has nothing.
+-- What the exports do that judge a trace as it comes. If an allocation fails the trace ends: the handle has nothing.
 use Rattle.std.specs.Prelude.{◌≡◌, ◌<◌, ◌&&◌, ℕ, nat_lt, if◌then◌else◌, List, [], ◌∷◌, ◌++◌, Option, None, Some}
 use Rattle.std.specs.Prelude.{option_map}
 use Rattle.address_map.specs.declared.address.WordAddr.{WordAddr}

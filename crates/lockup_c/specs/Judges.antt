@@ -21,7 +21,7 @@ use Rattle.lockup_c.specs.declared.structs.JudgementNumbers.{JudgementNumbers}
 use Rattle.lockup_c.specs.declared.structs.ReasonNumbers.{ReasonNumbers}
 use Rattle.trace_check.specs.declared.judge.TheConstants.{MOST_CORES, MOST_WORDS}
 
--- the handle has histories of which nothing is told
+-- the handle has empty histories
 pub record HasNewHistories (held : Option Held) : Type 0 where
   pub judged : JudgedHistories
   pub is : held ≡ Some (helds.Histories judged)
@@ -55,9 +55,9 @@ abbrev pub IsNoGift : ℕ → Option Held → Type 0
 IsNoGift word (Some (helds.Histories judged)) = CanGive word judged.histories → ⊥
 IsNoGift word held = ⊥
 
--- ---- an access is told
+-- ---- an access is added
 
--- what a store answers means nothing
+-- the reply of a store means nothing
 abbrev pub reply_named : Op → ℕ → ℕ
 reply_named (ops.Store value) reply = 0
 reply_named ops.Load reply = reply
@@ -94,7 +94,7 @@ pub record TakesAccess (numbers : AccessNumbers) (old new : Option Held) : Type 
   pub after : new ≡ Some (helds.Histories is)
   pub adds : AddsAccess numbers was.histories is.histories
 
--- the histories aren't told of an access that they can have
+-- the histories aren't given an access that they can have
 abbrev pub IsNoAccess : AccessNumbers → Option Held → Type 0
 IsNoAccess numbers (Some (helds.Histories judged)) = access_named numbers ≡ None
 IsNoAccess numbers held = ⊥

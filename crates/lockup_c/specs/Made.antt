@@ -105,7 +105,7 @@ abbrev pub Frees : ℕ → Option Held → Option Held → Type 0
 Frees code (Some held) new = (code ≡ 0) × (new ≡ None)
 Frees code None new = (code ≡ 1) × (new ≡ None)
 
--- the configuration of a script that says nothing
+-- the configuration of an empty script
 abbrev pub default_numbers : Numbers
 default_numbers = record {
   cores = 2;

@@ -8,7 +8,7 @@ ghost use Rattle.std.specs.Box.Ownership.{box_owns};
 use std::alloc::Allocator;
 use std::marker::Model;
 
-/// The parts of a box. Whoever drops them leaks the value.
+/// The parts of a box. Dropping them leaks the value.
 pub struct BoxedParts<T, A: Allocator> {
     pub ptr: *mut T,
     pub alloc: A,

@@ -13,7 +13,7 @@ use litmus_text::Command;
 use script_coverage::number_of;
 use std::alloc::Global;
 
-/// As many as there are cells.
+/// The number of cells.
 const NO_CELL: u64 = 94;
 
 /// A call, by its numbers.
@@ -145,7 +145,7 @@ fn shown_number(number: Option<u8>) -> u64
     }
 }
 
-/// The command that the numbers of a call name.
+/// Returns the command that the numbers of a call name.
 fn command_named(config: &Checked, asked: Asked) -> Option<Command>
     ensures named { result ≡ command_named config.now asked }
     ensures known { IfSome result (HasItsCore config.now) }

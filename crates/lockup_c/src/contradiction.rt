@@ -1,10 +1,10 @@
-//! Why a word's accesses have no order, in numbers: each access by its place among all that were told.
+//! Why a word's accesses have no order, in numbers: each access by its place among all that were given.
 
 use super::structs::ReasonNumbers;
 use history_text::{Claim, Histories, Reason, Verdict, claims_of};
 use std::alloc::{AllocError, Global};
 
-/// The reasons of a verdict that a word is incoherent, one after another; of another verdict there are none.
+/// Returns the reasons of a verdict that a word is incoherent, one after another. Any other verdict has none.
 pub(crate) fn reasons_of(
     alloc: Global,
     histories: &Histories,
@@ -43,7 +43,7 @@ fn reason_of(claim: Claim) -> ReasonNumbers {
     }
 }
 
-/// The number of a reason, and the third access that it names, or else the last.
+/// Returns the number of a reason, and the third access that it names, or else the last.
 const fn number_of(reason: Reason, last: usize) -> (u64, usize) {
     match reason {
         Reason::Core(_) => (1, last),

@@ -70,7 +70,7 @@ impl Drop for Handle {
     }
 }
 
-/// Takes out of a handle what it has.
+/// Takes what a handle has out of it.
 pub(crate) fn take(handle: &mut Handle, alloc: Global) -> Option<Box<Held, Global>>
     ensures some { IfSome result (λ held. handle.old.value ≡ Some held.value) }
     ensures none { IfNone result (handle.old.value ≡ None) }
@@ -82,7 +82,7 @@ pub(crate) fn take(handle: &mut Handle, alloc: Global) -> Option<Box<Held, Globa
     }
 }
 
-/// Gives a handle something to have, in place of what it had.
+/// Gives a handle something to have, instead of what it had.
 pub(crate) fn put(handle: &mut Handle, held: Box<Held, Global>)
     ensures { handle.new.value ≡ Some held.value }
 {

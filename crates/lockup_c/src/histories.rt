@@ -10,14 +10,14 @@ use std::alloc::Global;
 #[derive(Drop)]
 pub struct JudgedHistories {
     pub histories: Histories,
-    /// How many accesses were told.
+    /// How many accesses were given.
     pub accesses: usize,
     /// Why the last judgement found a word incoherent, if it did.
     pub reasons: Vec<ReasonNumbers>,
 }
 
 impl JudgedHistories {
-    /// Histories of which nothing is told.
+    /// Returns empty histories.
     pub(crate) fn new(alloc: Global) -> Self
         ensures told { AreTold result.histories [] }
         ensures extent { result.histories.extent ≡ extents.Word }

@@ -1,4 +1,4 @@
-//! Histories that are judged: what each core asked for and was answered, in no order of several cores.
+//! Histories that are judged: what each core asked for and the replies to it, without an order between cores.
 ghost use Rattle.std.specs.Prelude.{◌≡◌, ◌≢◌, ◌↔◌, IfOk, IsTrue, None, Some};
 ghost use Rattle.lockup_c.specs.Judges.{AddsAccess, CanGive, GivesValue, GivesWord, HasNewHistories, IsJudgedAs};
 ghost use Rattle.lockup_c.specs.Judges.{IsNoAccess, IsNoGift, Judges, ShowsReason, TakesAccess, access_named};
@@ -145,7 +145,7 @@ fn add_access(judged: &mut JudgedHistories, numbers: &AccessNumbers) -> u32
     let Some(access) = access_named(numbers) else {
         return OUT_OF_RANGE;
     };
-    // so many accesses are in no memory
+    // 2^64 accesses fit no memory
     let Some(accesses) = judged.accesses.checked_add(1) else {
         return NO_MEMORY;
     };

@@ -138,7 +138,7 @@ fn flag_named(flag: u64) -> Option<bool>
     }
 }
 
-/// A machine of these numbers and lists.
+/// Returns a machine of these numbers and lists.
 fn build(
     alloc: Global,
     numbers: &Numbers,

@@ -162,7 +162,7 @@ fn data_numbers(pick: Pick, reply: DataMessage) -> MessageNumbers
     }
 }
 
-/// A message of this kind in a channel. What it doesn't carry is 64 for a requester, else 0.
+/// Returns a message of this kind in a channel. What it doesn't carry is 64 for a requester, else 0.
 fn message_with(
     pick: Pick,
     kind: u64,

@@ -120,7 +120,7 @@ pub(crate) fn pick_named(
     }
 }
 
-/// The channel of acknowledgements from one core to another.
+/// Returns the channel of acknowledgements from one core to another.
 fn ack_named(config: &Checked, line: u64, to: u64, from: u64) -> Option<Pick>
     ensures { result ≡ ack_named config.now line to from }
 {
@@ -133,7 +133,7 @@ fn ack_named(config: &Checked, line: u64, to: u64, from: u64) -> Option<Pick>
     }
 }
 
-/// The channel of the block that comes home.
+/// Returns the channel of the block that comes home.
 fn home_named(config: &Checked, line: u64) -> Option<Pick>
     ensures { result ≡ home_named config.now line }
 {

@@ -139,7 +139,7 @@ pub(crate) const fn dir_number(state: DirState) -> u64
     }
 }
 
-/// A core's number, or 64 where there is none.
+/// Returns a core's number, or 64 if there is none.
 pub(crate) const fn core_number(core: Option<CoreId>) -> u64
     ensures { result ≡ core_number core }
 {
@@ -352,7 +352,7 @@ fn access_numbers(access: AccessKind) -> DecisionNumbers
     }
 }
 
-/// Whether a line has to leave.
+/// Whether a line has to be evicted.
 const fn victim_number(placement: Placement) -> u64
     ensures { result ≡ victim_number placement }
 {

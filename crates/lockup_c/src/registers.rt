@@ -117,7 +117,7 @@ fn register_numbers(register: MissRegister) -> RegisterNumbers
     }
 }
 
-/// The request that a copy waits for, as messages are numbered: a GetS in `IS_D`, else a GetM.
+/// Returns the request that a copy waits for, as messages are numbered: a GetS in `IS_D`, else a GetM.
 const fn request_number(state: CopyState) -> u64
     ensures { result ≡ request_number state }
 {
@@ -127,7 +127,7 @@ const fn request_number(state: CopyState) -> u64
     }
 }
 
-/// How many acknowledgements a copy needs, or 64 where its data haven't said so yet.
+/// Returns how many acknowledgements a copy needs, or 64 if its data haven't said so yet.
 fn needed_number(copy: &CacheCopy) -> u64
     ensures { result ≡ needed_number copy.now }
 {

@@ -1,10 +1,10 @@
 -- What an access leaves of the lines in front of a ring in which nothing waits: those to which nothing was sent.
-use Rattle.std.proofs.Common.{◌≡◌, ℕ, ◌<◌, ◌≤◌, ◌⊎◌, Bool, true, false, if◌then◌else◌, List, [], ◌++◌, length}
-use Rattle.std.proofs.Common.{get_or, Option, Some, None, Result, Ok, Err, refl, sym, ap, ◌∙◌, subst, ⊎_elim, inl, inr}
+use Rattle.std.proofs.Common.{◌≡◌, ℕ, ◌<◌, ◌≤◌, ◌⊎◌, List, [], ◌++◌, length}
+use Rattle.std.proofs.Common.{get_or, Some, Result, Ok, refl, sym, ap, ◌∙◌, subst, ⊎_elim, inl, inr}
 use Rattle.std.proofs.Common.{append-nil, append_assoc, arith}
-use Rattle.std.specs.Prelude.{◌&&◌, nat_lt, not, slice_get, slice_set}
+use Rattle.std.specs.Prelude.{slice_get, slice_set}
 use Rattle.std.proofs.lemmas.List.{get_or-set_other}
-use Rattle.address_map.specs.Locator.{is_past, line_at, local_at}
+use Rattle.address_map.specs.Locator.{line_at}
 use Rattle.address_map.specs.Place.{line_of}
 use Rattle.address_map.specs.declared.address.CoreId.{CoreId}
 use Rattle.address_map.specs.declared.address.Local.{Local}
@@ -13,22 +13,19 @@ use Rattle.cache_table.specs.declared.state.CopyState.{CopyState}
 use Rattle.slice_answer.specs.declared.answer.Issue.{Issue}
 use Rattle.slice_answer.specs.declared.answer.Issue.TheVariants as issues
 use Rattle.slice_answer.specs.declared.answer.Refused.{Refused}
-use Rattle.slice_answer.specs.declared.answer.Refused.TheVariants as refusals
-use Rattle.slice_core.proofs.Victim.{leaves_victim}
-use Rattle.slice_core.specs.Facts.{LeavesVictim}
-use Rattle.slice_core_cache.specs.Access.{access_of}
-use Rattle.slice_core_cache.specs.CoreCache.{tag_at}
+use Rattle.slice_core.proofs.Victim.{victim_left_last}
 use Rattle.slice_core_cache.specs.Steps.{victim_for}
-use Rattle.slice_core_cache.specs.Tags.{is_free}
 use Rattle.slice_core_cache.specs.declared.access.AccessKind.{AccessKind}
 use Rattle.slice_core_cache.specs.declared.access.AccessKind.TheVariants as access_kinds
 use Rattle.slice_core_cache.specs.declared.access.Ask.{Ask}
 use Rattle.slice_core_cache.specs.declared.access.Placement.{Placement}
 use Rattle.slice_core_cache.specs.declared.access.Placement.TheVariants as placements
+use Rattle.slice_core_theory.proofs.KeptByCalls.{decided}
+use Rattle.slice_core_spec.specs.Calls.{AfterDecision}
 use Rattle.slice_core_spec.specs.Calls.{PartsView, AfterAccepting, AfterAccess, AfterIssue, IsAccepted, LacksMemory}
 use Rattle.slice_core_spec.specs.PrimaryMiss.{AfterPrimaryMiss}
-use Rattle.slice_core_spec.specs.Decision.{decision_at, decision_of, is_counter, overwrites}
-use Rattle.slice_core_spec.specs.View.{View, cache_at, channels_at}
+use Rattle.slice_core_spec.specs.Decision.{decision_of}
+use Rattle.slice_core_spec.specs.View.{cache_at, channels_at}
 use Rattle.slice_core_spec.specs.declared.decision.Decision.{Decision}
 use Rattle.slice_core_spec.specs.declared.decision.Decision.TheVariants as decisions
 use Rattle.slice_core_exec.specs.CoreLines.{last_written_back}
@@ -52,37 +49,6 @@ sends-nothing At old new ring channels = record {
   same = λ l apart. ap (λ (all : List LineChannels). get_or all l (empty_line 0)) channels;
 }
 
--- the place of an access that was decided is that of its line
-module _ (v : View) (core : CoreId) (request : Request) (local : Local) (access : AccessKind) where
-  decided-line : (here : Local) → local_at v.lines (line_of request.word).0 ≡ Some here → (range busy counter : Bool)
-      → (if range then decisions.Refuse refusals.TagRange else if busy then decisions.Refuse refusals.TagBusy
-      else if counter then decisions.Refuse refusals.CounterStore
-      else decisions.Access here (access_of (cache_at v core) here request.tag request.op))
-      ≡ decisions.Access local access → local_at v.lines (line_of request.word).0 ≡ Some local
-  decided-line here found true busy counter is = absurd (cc is)
-  decided-line here found false true counter is = absurd (cc is)
-  decided-line here found false false true is = absurd (cc is)
-  decided-line here found false false false is =
-      let same : here ≡ local = cc is in found ∙ ap (λ (l : Local). Some l) same
-
-  abbrev by_place : Option Local → Decision
-  by_place None = decisions.Refuse refusals.WrongSlice
-  by_place (Some here) = decision_at v core request here
-
-  decided-place : (past : Bool) (place : Option Local) → local_at v.lines (line_of request.word).0 ≡ place
-      → (if past then decisions.Refuse refusals.OutOfRange else by_place place) ≡ decisions.Access local access
-      → local_at v.lines (line_of request.word).0 ≡ Some local
-  decided-place true place found is = absurd (cc is)
-  decided-place false None found is = absurd (cc is)
-  decided-place false (Some here) found is =
-      decided-line here found (not (nat_lt request.tag 64))
-      (not (is_free (tag_at (cache_at v core) request.tag))) (overwrites request.op && is_counter v request.word) is
-
-  decided-at : decision_of v core request ≡ decisions.Access local access
-      → local_at v.lines (line_of request.word).0 ≡ Some local
-  decided-at is =
-      decided-place (is_past v.lines request.word) (local_at v.lines (line_of request.word).0) refl is
-
 module _ (old : PartsView) (core : CoreId) (request : Request) (answer : Result Issue Refused) (new : PartsView)
     (known : core.0 < length old.view.caches) (made : AfterIssue old core request answer new) where
   -- the places of the line that was asked for, and of the one that left last
@@ -97,17 +63,7 @@ module _ (old : PartsView) (core : CoreId) (request : Request) (answer : Result 
   is-line : (local : Local) (access : AccessKind) → decision_of old.view core request ≡ decisions.Access local access
       → (line_of request.word).0 ≡ (line_at old.view.lines local).0
   is-line local access is =
-      line-named old.view.lines (line_of request.word) local (decided-at old.view core request local access is)
-
-  is-last : (local : Local) (next : CopyState) (ask : Ask) (seq : ℕ)
-      → decision_of old.view core request ≡ decisions.Access local (access_kinds.PrimaryMiss next ask placements.Victim)
-      → answer ≡ Ok (issues.Pending seq)
-      → last_written_back new.view core ≡ Some (line_at old.view.lines (victim_for (cache_at old.view core) local))
-  is-last local next ask seq is says =
-      subst (λ (a : Result Issue Refused). LeavesVictim
-      (decisions.Access local (access_kinds.PrimaryMiss next ask placements.Victim)) old.view core a new.view) says
-      (subst (λ (d : Decision). LeavesVictim d old.view core answer new.view) is
-      (leaves_victim old core request answer new known made))
+      line-named old.view.lines (line_of request.word) local (decided old.view core request local access is).2
 
   opened : (local : Local) (next : CopyState) (ask : Ask) (placement : Placement) (issue : Issue) (room : ℕ)
       → decision_of old.view core request ≡ decisions.Access local (access_kinds.PrimaryMiss next ask placement)
@@ -133,7 +89,9 @@ module _ (old : PartsView) (core : CoreId) (request : Request) (answer : Result 
       let gone = victim_for (cache_at old.view core) local in
       let (first, one) = listed old.ring gone.0 in
       let (second, two) = listed (old.ring ++ first) local.0 in
-      let last = is-last local next ask _ is (says ∙ ap (λ (i : Issue). Ok i) after.3.0) in record {
+      let last =
+      victim_left_last old core request answer new known local next ask _ is (says ∙ ap (λ (i : Issue). Ok i) after.3.0)
+      made in record {
         more = first ++ second;
         grows = ap (λ (p : PartsView). p.ring) after.3.1
             ∙ (subst (λ (ring : List ℕ). with_listed ring local.0 ≡ old.ring ++ (first ++ second)) (sym one)
@@ -187,11 +145,8 @@ module _ (old : PartsView) (core : CoreId) (request : Request) (answer : Result 
   accessed local (access_kinds.PrimaryMiss next ask placement) is after =
       let_in local (access_kinds.PrimaryMiss next ask placement) is after
 
-  abbrev by_decision : Decision → Type 0
-  by_decision (decisions.Refuse refused) = (answer ≡ Err refused) × (new ≡ old)
-  by_decision (decisions.Access local access) = AfterAccess access old core request local answer new
-
-  issued : (decision : Decision) → decision_of old.view core request ≡ decision → by_decision decision
+  issued : (decision : Decision) → decision_of old.view core request ≡ decision
+      → AfterDecision decision old core request answer new
       → SendsTo At old new
   issued (decisions.Refuse refused) is after =
       sends-nothing At old new (ap (λ (p : PartsView). p.ring) after.1)

@@ -181,12 +181,12 @@ planned-there v line local (channels.Ack to from) there =
 planned-there v line local channels.Home there =
     ap (λ (place : Option Local). planned_in v place channels.Home) there
 
--- nothing is next of an idle line
+-- an idle line has no next delivery
 next-idle : (v : View) (local : Local) → IsIdle v local → next_at v classes.Any local ≡ deliveries.Nothing
 next-idle v local idle =
     ap (λ (names : List Channel). first_of v local (filter (is_of_class classes.Any) names)) idle.waiting
 
--- the first message of a line is next of it, where it can be moved
+-- the first message of a line is its next delivery, where it can be moved
 next-first : (v : View) (local : Local) (channel : Channel) (rest : List Channel) (step : Transition)
     → line_waiting (channels_at v local) ≡ channel ∷ rest → plan_of v local channel ≡ deliveries.Moved step
     → next_at v classes.Any local ≡ deliveries.Moved (local, channel)

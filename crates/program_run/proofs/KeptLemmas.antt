@@ -39,6 +39,7 @@ use Rattle.slice_core_cache.specs.declared.access.Ask.{Ask}
 use Rattle.slice_core_cache.specs.declared.access.Placement.{Placement}
 use Rattle.slice_core_cache.specs.declared.access.Placement.TheVariants as placements
 use Rattle.slice_core_cache.specs.declared.copy.CacheCopy.{CacheCopy}
+use Rattle.slice_core_spec.specs.Calls.{AfterDecision}
 use Rattle.slice_core_spec.specs.Calls.{PartsView, AfterAccepting, AfterAccess, AfterDelivery, AfterHand, AfterIssue}
 use Rattle.slice_core_spec.specs.Calls.{AfterPlan, IsAccepted, LacksMemory, Settles, core_of, local_in}
 use Rattle.slice_core_spec.specs.Decision.{decision_of, overwrites}
@@ -134,11 +135,8 @@ module _ (old : PartsView) (core : CoreId) (request : Request) (answer : Result 
   accessed local (access_kinds.PrimaryMiss next ask placement) after =
       let_in local (access_kinds.PrimaryMiss next ask placement) after
 
-  abbrev by_decision : Decision → Type 0
-  by_decision (decisions.Refuse refused) = (answer ≡ Err refused) × (new ≡ old)
-  by_decision (decisions.Access local access) = AfterAccess access old core request local answer new
-
-  decided : (decision : Decision) → by_decision decision → KeepsCores core old.view new.view
+  decided : (decision : Decision)
+      → AfterDecision decision old core request answer new → KeepsCores core old.view new.view
   decided (decisions.Refuse refused) after =
       keeps_all core old.view new.view (ap (λ (p : PartsView). p.view) after.1)
   decided (decisions.Access local access) after = accessed local access after
@@ -356,7 +354,7 @@ module _ (config : Config) (core : CoreId) (old new : List PartsView) (kept : Li
 
 -- ---- lines in front of rings
 
--- of no slice it is known that a line is idle
+-- no line of any slice is known to be idle
 no-count : (count place : ℕ) → get_or (replicate count zero) place zero ≡ zero
 no-count zero place = refl
 no-count (suc count) zero = refl

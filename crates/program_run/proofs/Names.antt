@@ -1,4 +1,4 @@
--- The name of each column to the right in 10 places: what the layout `{:>10}` makes of it.
+-- The name of each column, right-aligned in 10 places as `{:>10}` writes it.
 use Rattle.std.proofs.Common.{◌≡◌, ◌-◌, ◌^◌, refl}
 use lib.Utf8.{encode}
 use Rattle.std.specs.Fmt.{format_spec, styled_text, padded, char_count, take_chars}

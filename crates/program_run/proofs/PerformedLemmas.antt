@@ -8,7 +8,7 @@ use Rattle.slice_log.specs.declared.entry.Entry.{Entry}
 use Rattle.program_run.specs.History.{HasSeen}
 use Rattle.program_run.specs.Run.{Leads, Performs, PerformsAll, RunnerView, RunState, run_of}
 
--- so many were performed that these are left: whoever performs them has performed all
+-- these are left to perform: once they are performed, all are
 abbrev pub HasPerformed : Config → Programs → ℕ → Bool → List Entry → List Entry → RunState → RunState → Type 0
 HasPerformed config programs slice is_first left all old new =
     (end : RunState) → PerformsAll config programs slice is_first left new end

@@ -21,7 +21,7 @@ use Rattle.program_run.specs.declared.moves.Move.{Move}
 use Rattle.program_run.specs.declared.run.Form.{Form}
 use Rattle.program_run.proofs.OwedLemmas.{or_else_none}
 
--- so many moves were made, which took the generator from there to here: whatever is made after them goes on from there
+-- `count` moves were made, which took the generator from `first` to `last`: what is made after them goes on from there
 abbrev pub HasMade : Config → Programs → List ℕ → List ℕ → ℕ → List ℕ → RunState → RunState → Type 0
 HasMade config programs first last count owed old new =
     (end : RunState) (more : List Move) → MakesAll config programs last count owed more new end
@@ -90,7 +90,7 @@ run_ended programs seed count last owed start end made none = record {
       (all.0, all.1, record { steps = steps; made = makes; ended = inl ended });
 }
 
--- .. or since so many were made
+-- .. or since 2^64 - 1 were made
 pub run_cut : (programs : Programs) (seed count : ℕ) (last owed : List ℕ) (start end : RunnerView)
     → Leads (HasMade start.config programs (of_seed (splitmix_seed 32 seed)) last count owed) start end
     → count ≡ 2 ^ 64 - 1

@@ -5,7 +5,7 @@ use Rattle.std.specs.List.{range_with_len}
 use Rattle.slice_core_spec.specs.Calls.{PartsView}
 use Rattle.program_run.specs.Tidy.{TidiesAll, TidiesSlice, tidied_by}
 
--- what tidies all that are left from this one on tidies all, and so does what tidies those after it
+-- tidying those from this one on tidies all, and so does tidying those after it
 pub tidies_one : (slice slices : ℕ) (start now next : List PartsView)
     → ((end : List PartsView) (left : ℕ) → slice + left ≡ slices → TidiesAll (range_with_len slice left) now end
     → TidiesAll (range_with_len 0 slices) start end)

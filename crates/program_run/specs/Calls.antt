@@ -8,7 +8,7 @@ use Rattle.mshr_file.specs.declared.kind.MissKind.{MissKind}
 use Rattle.litmus_text.specs.Line.{line_of_parts}
 use Rattle.litmus_text.specs.SettingsLines.{lines_of_settings, text_of_lines}
 
--- the calls that were made, in order, where they are wanted
+-- the calls that were made, in order, if they are wanted
 pub record CallsView : Type 0 where
   pub wanted : Bool
   pub made : List Command

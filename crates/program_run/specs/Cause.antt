@@ -1,4 +1,4 @@
--- Why an access misses: a function of what happened before. Events stand with the newest first.
+-- Why an access misses: a function of what happened before. Events are listed with the newest first.
 use Rattle.std.specs.Prelude.{ℕ, Bool, true, false, ◌==◌, ◌&&◌, ◌||◌, ◌/◌, not, List, [], ◌∷◌, if◌then◌else◌}
 use Rattle.program_run.specs.declared.cause.Cause.{Cause}
 use Rattle.program_run.specs.declared.cause.Cause.TheVariants as causes
@@ -7,7 +7,7 @@ use Rattle.program_run.specs.declared.cause.Event.TheVariants as events
 use Rattle.program_run.specs.declared.cause.Fate.{Fate}
 use Rattle.program_run.specs.declared.cause.Fate.TheVariants as fates
 
--- what became last of the core's copy of the line
+-- what last became of the core's copy of the line
 abbrev pub fate_of : ℕ → ℕ → List Event → Fate
 fate_of core line [] = fates.Never
 fate_of core line (events.Took c l ∷ before) =

@@ -32,11 +32,11 @@ abbrev pub columns_of_all : Bool → List Column
 columns_of_all false = line_columns
 columns_of_all true = line_columns ++ parallel_columns
 
--- what is counted of a run where it is said how many deliveries each slice makes
+-- what is counted of a run if it is given how many deliveries each slice makes
 abbrev pub pace_columns : List Column
 pace_columns = columns.Delivered ∷ []
 
--- what the heading says of a column
+-- the heading of a column
 abbrev pub name_of : Column → List ℕ
 name_of columns.Requests = codes "requests"
 name_of columns.Hits = codes "hits"
@@ -62,7 +62,7 @@ name_of columns.WriteBackFull = codes "wb-full"
 name_of columns.WriteBackBusy = codes "wb-busy"
 name_of columns.Delivered = codes "delivered"
 
--- what it is called in JSON and in rows
+-- its name in JSON and in rows
 abbrev pub key_of : Column → List ℕ
 key_of columns.Requests = codes "requests"
 key_of columns.Hits = codes "hits"

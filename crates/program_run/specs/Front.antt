@@ -27,7 +27,7 @@ pub record IsIdle (v : View) (local : Local) : Type 0 where
   pub waiting : line_waiting (channels_at v local) ≡ []
   pub empty : (channel : Channel) → messages_at (channels_at v local) channel ≡ []
 
--- nothing waits in so many lines in front of the ring
+-- nothing waits in the first `count` lines of the ring
 pub record HasIdleFront (count : ℕ) (p : PartsView) : Type 0 where
   pub within : count ≤ length p.ring
   pub idle : (place local : ℕ) → place < count → slice_get p.ring place ≡ Some local
@@ -52,7 +52,7 @@ IsLineFront v line place fronts.Unknown = Unit {0}
 IsLineFront v line place fronts.Idle = (local : Local) × (place ≡ Some local) × IsIdle v local
 IsLineFront v line place (fronts.Waits pick) = (local : Local) × WaitsFirst v line local pick
 
--- what is in the ring after so many lines
+-- what is in the ring after the first `count` lines
 abbrev pub IsFront : PartsView → ℕ → Front → Type 0
 IsFront p count fronts.Unknown = Unit {0}
 IsFront p count fronts.Idle = count ≡ length p.ring
@@ -64,30 +64,30 @@ abbrev pub delivery_if : Option Pick → List Move
 delivery_if None = []
 delivery_if (Some pick) = moves.Deliver pick ∷ []
 
--- what is next of the slice is told so, where the first message is at the pick
+-- this is the next delivery of the slice, where the first message is at the pick
 abbrev pub IsNextFrom : PartsView → Pick → Option Pick → Type 0
 IsNextFrom p pick next =
     (count : ℕ) → HasIdleFront count p → IsFront p count (fronts.Waits pick)
     → delivery_of (next_pick p classes.Any) ≡ delivery_if next
 
--- none of so many lines of the ring is this one, or the one that left
+-- none of the first `count` lines of the ring is `line` or `left`
 abbrev pub IsApart : PartsView → ℕ → LineAddr → Option LineAddr → Type 0
 IsApart p count line left =
     (place : ℕ) → place < count
     → (slice_get (ring_lines p) place ≢ Some line) × (slice_get (ring_lines p) place ≢ left)
 
--- fewer lines, none of which is this one, or the one that left last
+-- fewer lines, and none of them is this one or the one that was evicted last
 abbrev pub IsLess : PartsView → CoreId → LineAddr → ℕ → ℕ → Type 0
 IsLess p core line old new = (new ≤ old) × IsApart p new line (last_written_back p.view core)
 
--- the lines that need no look are so many fewer of one slice
+-- in one slice fewer lines need no look
 abbrev pub LooksBehind : List PartsView → ℕ → CoreId → LineAddr → List ℕ → List ℕ → Type 0
 LooksBehind slices slice core line old new =
     (p : PartsView) → slice_get slices slice ≡ Some p
     → IsLess p core line (slice_index_or old slice 0) (slice_index_or new slice 0)
     × ((other : ℕ) → other ≢ slice → slice_index_or new other 0 ≡ slice_index_or old other 0)
 
--- the lines to which an access that waits has sent something are none of those
+-- an access that waits has sent something to none of the lines that need no look
 abbrev pub LooksAgain : List PartsView → ℕ → CoreId → LineAddr → Issued → List ℕ → List ℕ → Type 0
 LooksAgain slices slice core line (issued_kinds.Pending seq) old new = LooksBehind slices slice core line old new
 LooksAgain slices slice core line issued old new = new ≡ old

@@ -41,7 +41,7 @@ pub record HasSeen (config : Config) (history : History) (observer : Observer) :
   pub recalls : Recalls history.happened observer.memory
   pub counts : observer.tally ≡ tally_after (new_tally config.cores config.lines) history.counted
 
--- what happens to this core and line is noted: there is a place for it in a memory of so many lines
+-- what happens to this core and line is noted: there is a place for it in a memory of `lines` lines
 abbrev pub has_place : ℕ → Event → Bool
 has_place lines (events.Took core line) = nat_lt core.0 64 && nat_lt line.0 lines
 has_place lines (events.GaveUp core line) = nat_lt core.0 64 && nat_lt line.0 lines
@@ -111,7 +111,7 @@ abbrev pub has_line : ℕ → CoreId → LineAddr → History → Bool
 has_line lines core line history =
     (nat_lt core.0 64 && nat_lt line.0 lines) && is_held (fate_of core.0 line.0 history.happened)
 
--- a line left to make room
+-- a line was evicted to make room
 abbrev pub after_eviction : ℕ → CoreId → LineAddr → History → History
 after_eviction lines core line history =
     after_event lines (events.GaveUp core line) (after_count (counted_kinds.Eviction core line) history)
@@ -122,7 +122,7 @@ takes_away (Some (messages.Forwarded (forwarded_messages.Inv requester))) = true
 takes_away (Some (messages.Forwarded (forwarded_messages.FwdGetM requester))) = true
 takes_away message = false
 
--- who has the line loses it
+-- a core that has the line loses it
 abbrev pub after_loss : ℕ → CoreId → LineAddr → History → History
 after_loss lines core line history =
     if has_line lines core line history then after_event lines (events.Lost core line) history else history

@@ -30,12 +30,12 @@ usage_members true usage =
     ++ (codes ",\"targets_most\":" ++ (number_of usage.most_targets
     ++ (codes ",\"targets_sum\":" ++ number_of usage.sum_targets))))))))
 
--- how many moves there were, where that isn't said already
+-- how many moves there were, unless that is written already
 abbrev pub moves_member : Bool → ℕ → List ℕ
 moves_member true moves = []
 moves_member false moves = codes ",\"moves\":" ++ number_of moves
 
--- how many there were of a run, and how many of them delivered, where it is said how many deliveries each slice makes
+-- how many moves a run made, and how many of them delivered, if it is given how many deliveries each slice makes
 abbrev pub pace_members : Bool → Bool → ℕ → Counts → List ℕ
 pace_members is_limited false moves all = []
 pace_members is_limited true moves all = moves_member is_limited moves ++ codes "," ++ members_of pace_columns all

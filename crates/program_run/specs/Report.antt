@@ -1,5 +1,5 @@
 -- The report: the seed, a table of the cores, and one of the lines that were asked for, which ends with the sums. Where
--- several accesses of a core may be under way, two further tables of the cores follow it, and at last how many moves
+-- several accesses of a core may be under way, two further tables of the cores follow it, and at the end how many moves
 -- delivered.
 use Rattle.std.specs.Prelude.{ℕ, ◌/◌, ◌%◌, ◌==◌, Bool, true, false, List, [], ◌++◌, codes, decimal, if◌then◌else◌, length}
 use Rattle.std.specs.List.{flat_map, range_with_len}
@@ -68,7 +68,7 @@ line_row line counts = if requests_of counts == 0 then [] else row_of line line_
 abbrev pub line_rows : List Counts → List ℕ
 line_rows lines = flat_map (λ line. line_row line (counts_at lines line)) (range_with_len 0 (length lines))
 
--- how many moves there were, and how many of them delivered, where it is said how many deliveries each slice makes
+-- how many moves there were, and how many of them delivered, if it is given how many deliveries each slice makes
 abbrev pub pace_table : Bool → ℕ → Counts → List ℕ
 pace_table false moves all = []
 pace_table true moves all = heading_of (codes "     moves") pace_columns ++ row_of moves pace_columns all

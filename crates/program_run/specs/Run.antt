@@ -1,4 +1,4 @@
--- A run of programs: what may come next, and what each move does to the machine, to where programs stand, and to what
+-- A run of programs: what may come next, and what each move does to the machine, to where programs are, and to what
 -- is seen.
 use Rattle.std.specs.Prelude.{◌≡◌, ◌⊎◌, ℕ, ◌-◌, ◌^◌, ◌+◌, ◌%◌, ◌==◌, nat_lt, not, Bool, true, false}
 use Rattle.std.specs.Prelude.{◌||◌, slice_index_or}
@@ -76,7 +76,7 @@ use Rattle.program_run.specs.declared.usage.Usage.{Usage}
 use Rattle.slice_answer.specs.declared.answer.Delivery.TheVariants as deliveries
 use Rattle.slice_answer.specs.declared.answer.Delivery.{Delivery}
 
--- the states of the machine's slices, the calls that were made of it, where each program stands, and what was seen
+-- the states of the machine's slices, the calls that were made of it, where each program is, and what was seen
 pub record RunState : Type 0 where
   pub slices : List PartsView
   pub calls : CallsView
@@ -85,7 +85,7 @@ pub record RunState : Type 0 where
 
 -- ---- what may come next
 
--- so many accesses of a core may be under way: one, where no number is said
+-- how many accesses of a core may be under way: 1 if no number is given
 abbrev pub most_of : Option ℕ → ℕ
 most_of None = 1
 most_of (Some most) = most
@@ -104,7 +104,7 @@ may_step_at most (Some place) step = may_step most place step
 abbrev pub request_of : Place → Access → Request
 request_of place access = record { op = access.op; word = access.word; tag = place.asked % 64 }
 
--- how a program goes on that is there
+-- how a program that is there goes on
 abbrev pub turn_of : Place → Step → Turn
 turn_of place (step_kinds.Access access) = turns.Ask (request_of place access)
 turn_of place step_kinds.Settle = turns.Settled
@@ -114,7 +114,7 @@ abbrev pub turn_by : Option ℕ → CoreId → Place → Option Step → Option 
 turn_by most core place None = None
 turn_by most core place (Some step) = if may_step most place step then Some (core, turn_of place step) else None
 
--- how a program goes on that is there: not where its core isn't one of so many
+-- how a program that is there goes on: it doesn't if its core isn't one of `cores`
 abbrev pub next_by : ℕ → Option ℕ → Option CoreProgram → Option Place → Option (CoreId × Turn)
 next_by cores most None place = None
 next_by cores most (Some program) None = None
@@ -156,7 +156,7 @@ abbrev pub may_go_on : Config → List PartsView → Bool → Option (CoreId × 
 may_go_on config slices stalls None = false
 may_go_on config slices stalls (Some next) = may_turn config slices stalls next.0 next.1
 
--- A stall is to be counted, once of each access, where it is said how many accesses may be under way.
+-- A stall is to be counted, once for each access, if it is given how many accesses may be under way.
 abbrev pub may_stall : Option ℕ → Option Place → Bool
 may_stall None place = false
 may_stall (Some most) None = false
@@ -200,7 +200,7 @@ waiting_of v line = waiting_at v line (local_at v.lines line.0)
 abbrev pub waiting_in : PartsView → List Move
 waiting_in state = flat_map (waiting_of state.view) (ring_lines state)
 
--- .. where it has so many still to make
+-- .. unless it has none left to make
 abbrev pub owed_in : ℕ → PartsView → List Move
 owed_in left state = if left == 0 then [] else waiting_in state
 
@@ -219,7 +219,7 @@ owed_from owed slice (state ∷ more) =
 abbrev pub moves_of : Config → Programs → List ℕ → RunState → List Move
 moves_of config programs owed run = or_else (owed_from owed 0 run.slices) (free_moves config programs run)
 
--- how many deliveries each slice makes after an access: none, where no number is said
+-- how many deliveries each slice makes after an access: 0 if no number is given
 abbrev pub pace_of : Option ℕ → ℕ
 pace_of None = 0
 pace_of (Some most) = most
@@ -233,7 +233,7 @@ abbrev pub is_access : Option (CoreId × Turn) → Bool
 is_access None = false
 is_access (Some next) = is_ask next.1
 
--- How many each slice has still to make after a move: as many as the pace after an access, and one less after a
+-- How many each slice has still to make after a move: the pace after an access, and one less after a
 -- delivery.
 abbrev pub owed_behind : Config → Programs → List Place → Move → List ℕ → List ℕ
 owed_behind config programs places (moves.Ask number) owed =
@@ -283,7 +283,7 @@ abbrev pub takes_of : Decision → Takes
 takes_of (decisions.Access local (access_kinds.PrimaryMiss next ask placement)) = takes.Register
 takes_of decision = takes.Target
 
--- another line has to leave for the access
+-- another line has to be evicted for the access
 abbrev pub makes_room : Decision → Bool
 makes_room (decisions.Access local (access_kinds.PrimaryMiss next ask placements.Victim)) = true
 makes_room decision = false
@@ -297,7 +297,7 @@ abbrev pub after_leaving : ℕ → CoreId → Option LineAddr → History → Hi
 after_leaving lines core None history = history
 after_leaving lines core (Some left) history = after_eviction lines core left history
 
--- Where room was made, the line that left is seen, and counted as an eviction: the last that the core's write-back
+-- If room was made, the evicted line is seen, and counted as an eviction: the last that the core's write-back
 -- buffer took in.
 abbrev pub after_room : ℕ → Bool → Option PartsView → CoreId → History → History
 after_room lines false state core history = history
@@ -450,7 +450,7 @@ measured_run limited run = record run { places = measured_places limited run.pla
 abbrev pub drawn_move : ℕ → List Move → Option Move
 drawn_move word moves = slice_get moves (word % length moves)
 
--- These moves are made after so many others, where each slice has so many deliveries still to make, one after another.
+-- These moves are made after `made` others, where each slice has `owed` deliveries still to make, one after another.
 -- Each is drawn from those that may come next, by the next word of the generator that is there; after it, it is
 -- measured what is in use, and rings are kept short.
 abbrev pub MakesAll : Config → Programs → List ℕ → ℕ → List ℕ → List Move → RunState → RunState → Type 0
@@ -543,7 +543,7 @@ usage_of programs places core = by_number (position (λ program. program.core.0 
     by_number None = no_usage
     by_number (Some number) = usage_in (slice_get places number)
 
--- .. of each of so many cores
+-- .. of each of `cores` cores
 abbrev pub usages_of : ℕ → Programs → List Place → List Usage
 usages_of cores programs places = map (usage_of programs.cores.items places) (range_with_len 0 cores)
 
@@ -585,7 +585,7 @@ pub record PrintsSchedule (bound : Bound) (programs : Programs) (seed status : �
   pub stuck : ¬ IsOver programs end → status ≡ 1
   pub printed : Appends before after (text_of_script programs.config programs.misses end.calls.made)
 
--- what is given bounds the run, and not what the text says
+-- limits that are given override those of the text
 abbrev pub limited_to : Limits → Programs → Programs
 limited_to given programs = record programs {
   limits = record {

@@ -39,7 +39,7 @@ no_counts = record {
   messages = no_messages;
 }
 
--- nothing is counted of so many cores and lines
+-- nothing is counted of `cores` cores and `lines` lines
 abbrev pub new_tally : ℕ → ℕ → TallyView
 new_tally cores lines = record { cores = replicate cores no_counts; lines = replicate lines no_counts }
 
@@ -71,7 +71,7 @@ one_more (counted_kinds.Eviction core line) counts = record counts { evictions =
 one_more (counted_kinds.Message pick) counts =
     record counts { messages = one_more_message (channel_of pick) counts.messages }
 
--- the core of a message: the one that sent the request, or got any other; a block on its way home has none
+-- the core of a message: the sender of a request, or the receiver of any other; a block on its way home has none
 abbrev pub core_of_message : Pick → Option CoreId
 core_of_message (picks.Req line core) = Some core
 core_of_message (picks.Fwd line core) = Some core
@@ -79,7 +79,7 @@ core_of_message (picks.Data line core) = Some core
 core_of_message (picks.Ack line to from) = Some to
 core_of_message (picks.Home line) = None
 
--- the core of which it is counted, if any
+-- the core it is counted for, if any
 abbrev pub core_of : Counted → Option CoreId
 core_of (counted_kinds.Hit core line) = Some core
 core_of (counted_kinds.Miss core line cause) = Some core
@@ -88,7 +88,7 @@ core_of (counted_kinds.Stall core line stall) = Some core
 core_of (counted_kinds.Eviction core line) = Some core
 core_of (counted_kinds.Message pick) = core_of_message pick
 
--- the line of which it is counted
+-- the line it is counted for
 abbrev pub line_of : Counted → LineAddr
 line_of (counted_kinds.Hit core line) = line
 line_of (counted_kinds.Miss core line cause) = line

@@ -29,7 +29,7 @@ tidied_by None = None
 tidied_by (Some state) = if is_some (slice_get (ring_lines state) 32) then idle_class state else None
 
 -- A slice is asked for the next delivery of such a class. There is none, and all lines of its ring are looked at for it:
--- those without messages leave.
+-- those without messages are removed.
 abbrev pub TidiesSlice : ℕ → Option Class → List PartsView → List PartsView → Type 0
 TidiesSlice slice None old new = new ≡ old
 TidiesSlice slice (Some class) old new = IsMade slice (slice_calls.DeliverNext class) old new

@@ -8,7 +8,7 @@ use Rattle.program_run.specs.declared.usage.Usage.{Usage}
 abbrev pub no_usage : Usage
 no_usage = record { moves = 0; most_registers = 0; sum_registers = 0; most_targets = 0; sum_targets = 0 }
 
--- so many registers and targets are in use after one more move
+-- `registers` and `targets` are in use after one more move
 abbrev pub measured : ℕ → ℕ → Usage → Usage
 measured registers targets usage = record {
   moves = next_count usage.moves;
@@ -33,7 +33,7 @@ abbrev pub usage_of_all : Usage → List Usage → Usage
 usage_of_all before [] = before
 usage_of_all before (usage ∷ more) = usage_of_all (usages_together before usage) more
 
--- the mean over so many moves: its whole part, and the first two places after the point
+-- the mean over `moves` moves: its whole part, and the first two places after the point
 abbrev pub whole_of : ℕ → ℕ → ℕ
 whole_of sum moves = if moves == 0 then 0 else sum / moves
 

@@ -5,7 +5,7 @@ use litmus_text::Command;
 use std::alloc::{AllocError, Global};
 use std::marker::Model;
 
-/// The calls that are made of the machine, in order, where they are wanted.
+/// The calls that are made of the machine, in order, if they are wanted.
 #[derive(Drop)]
 pub(crate) struct Calls {
     wanted: bool,
@@ -31,7 +31,7 @@ impl Calls {
         }
     }
 
-    /// One more is made.
+    /// Adds one more.
     pub fn push(&mut self, call: Command) -> Result<(), AllocError>
         ensures { OnOk result (self.new ≡ with_call call self.old) }
     {
@@ -41,7 +41,7 @@ impl Calls {
         Ok(())
     }
 
-    /// Those that were made: none where they aren't wanted.
+    /// Returns those that were made: none if they aren't wanted.
     pub fn made(&self) -> &[Command]
         ensures { result.now ≡ self.now.made }
     {

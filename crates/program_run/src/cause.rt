@@ -5,7 +5,7 @@ use address_map::{CoreId, LineAddr, WordAddr};
 pub enum Cause {
     /// The core never had the line before.
     Cold,
-    /// The core gave the line up.
+    /// The core evicted the line.
     Replaced,
     /// The core has the line, and may not write it.
     Upgrade,
@@ -20,15 +20,15 @@ pub enum Cause {
 pub enum Event {
     /// The core has the line from now on.
     Took(CoreId, LineAddr),
-    /// The core gives the line up to make room.
+    /// The core evicts the line to make room.
     GaveUp(CoreId, LineAddr),
-    /// The core gives the line up to another core that writes it.
+    /// The core loses the line to another core that writes it.
     Lost(CoreId, LineAddr),
     /// The core writes the word.
     Wrote(CoreId, WordAddr),
 }
 
-/// What became last of a core's copy of a line.
+/// What last became of a core's copy of a line.
 #[derive(Clone, Copy, Debug, PartialEq, Eq)]
 pub enum Fate {
     Never,

@@ -84,24 +84,24 @@ static CORE_COLUMNS: [Column; 21] = [
     Column::WriteBackBusy,
 ];
 
-/// What is counted of a run where it is said how many deliveries each slice makes.
+/// What is counted of a run if it is given how many deliveries each slice makes.
 static PACE_COLUMNS: [Column; 1] = [Column::Delivered];
 
-/// The columns of a core.
+/// Returns the columns of a core.
 pub(crate) fn core_columns() -> &'static [Column]
     ensures { result.now ≡ core_columns }
 {
     &CORE_COLUMNS[..13]
 }
 
-/// What is counted of a core only where several of its accesses may be under way.
+/// Returns what is counted of a core only where several of its accesses may be under way.
 pub(crate) fn parallel_columns() -> &'static [Column]
     ensures { result.now ≡ parallel_columns }
 {
     &CORE_COLUMNS[13..]
 }
 
-/// All that is reported of a core, by whether several of its accesses may be under way.
+/// Returns all that is reported of a core, by whether several of its accesses may be under way.
 pub(crate) fn columns_of_core(is_limited: bool) -> &'static [Column]
     ensures { result.now ≡ columns_of_core is_limited }
 {
@@ -112,14 +112,14 @@ pub(crate) fn columns_of_core(is_limited: bool) -> &'static [Column]
     }
 }
 
-/// The columns of a line.
+/// Returns the columns of a line.
 pub(crate) fn line_columns() -> &'static [Column]
     ensures { result.now ≡ line_columns }
 {
     &LINE_COLUMNS[..14]
 }
 
-/// Those of all lines, by whether several accesses of a core may be under way.
+/// Returns those of all lines, by whether several accesses of a core may be under way.
 pub(crate) fn columns_of_all(is_limited: bool) -> &'static [Column]
     ensures { result.now ≡ columns_of_all is_limited }
 {
@@ -130,7 +130,7 @@ pub(crate) fn columns_of_all(is_limited: bool) -> &'static [Column]
     }
 }
 
-/// What is counted of a run where it is said how many deliveries each slice makes.
+/// Returns what is counted of a run if it is given how many deliveries each slice makes.
 pub(crate) fn pace_columns() -> &'static [Column]
     ensures { result.now ≡ pace_columns }
 {
@@ -138,7 +138,7 @@ pub(crate) fn pace_columns() -> &'static [Column]
 }
 
 impl Column {
-    /// What its heading says.
+    /// Returns its heading.
     pub fn name(self) -> &'static str
         ensures { result.now ≡ name_of self }
     {
@@ -169,7 +169,7 @@ impl Column {
         }
     }
 
-    /// What it is called where no heading of a table says what it belongs to: in JSON and in rows.
+    /// Returns its name where no heading of a table says what it belongs to: in JSON and in rows.
     pub fn key(self) -> &'static str
         ensures { result.now ≡ key_of self }
     {
@@ -200,7 +200,7 @@ impl Column {
         }
     }
 
-    /// The count that it shows.
+    /// Returns the count that it shows.
     pub fn count(self, counts: &Counts) -> u64
         ensures { result ≡ count_in self counts.now }
     {

@@ -25,7 +25,7 @@ pub(crate) enum Front {
     Unknown,
 }
 
-/// The next delivery of the slice, if one can be made. Nothing waits in so many lines in front of its ring.
+/// Returns the next delivery of the slice, if one can be made. Nothing waits in the first `idle` lines of its ring.
 pub(crate) fn next_delivery(state: &SliceState<EitherFile>, idle: &mut usize) -> Option<Pick>
     requires { HasIdleFront idle.old state.now }
     ensures next { delivery_of (next_pick state.now classes.Any) ≡ delivery_if result }
@@ -38,7 +38,7 @@ pub(crate) fn next_delivery(state: &SliceState<EitherFile>, idle: &mut usize) ->
     }
 }
 
-// The next delivery where the pick is of the first message: that one, if it can be made.
+// Returns the next delivery where the pick is of the first message: that one, if it can be made.
 fn next_from(state: &SliceState<EitherFile>, pick: Pick) -> Option<Pick>
     ensures { IsNextFrom state.now pick result }
 {
@@ -48,7 +48,7 @@ fn next_from(state: &SliceState<EitherFile>, pick: Pick) -> Option<Pick>
     }
 }
 
-// The pick of a delivery that can be made.
+// Returns the pick of a delivery that can be made.
 fn moved(next: DeliveredNext) -> Option<Pick>
     ensures { delivery_of next ≡ delivery_if result }
 {
@@ -71,7 +71,7 @@ pub(crate) fn push_delivery(next: Option<Pick>, moves: &mut Vec<Move>) -> Result
     }
 }
 
-/// Lists the deliveries that the slice can be asked for. Nothing waits in so many lines in front of its ring.
+/// Lists the deliveries that the slice can be asked for. Nothing waits in the first `idle` lines of its ring.
 pub(crate) fn list_waiting(
     state: &SliceState<EitherFile>,
     idle: &mut usize,
@@ -98,7 +98,7 @@ fn list_behind(
     let mut place = idle;
     while let Some(line) = state.ring_line(place) {
         list_line(state, line, moves)?;
-        // there is no memory for a ring with so many lines
+        // a ring of 2^64 - 1 lines fits no memory
         if place == usize::MAX {
             return Err(AllocError);
         }
@@ -136,7 +136,7 @@ fn push_all(
     Ok(())
 }
 
-// The first line of the ring that isn't idle.
+// Returns what is at the first line of the ring that isn't idle.
 fn first_front(state: &SliceState<EitherFile>, idle: &mut usize) -> Front
     requires { HasIdleFront idle.old state.now }
     ensures front { IsFront state.now idle.new result }
@@ -166,7 +166,7 @@ fn front_of(state: &SliceState<EitherFile>, line: LineAddr) -> Front
     }
 }
 
-/// How many of so many lines in front of the ring stand before these two.
+/// Returns how many of the first `count` lines of the ring come before both `line` and `left`.
 pub(crate) fn lines_before(
     state: &SliceState<EitherFile>,
     count: usize,

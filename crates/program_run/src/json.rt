@@ -93,7 +93,7 @@ fn write_core<W: Write>(
     write!(out, "}}")
 }
 
-// What was in use, where several accesses of a core may be under way.
+// Writes what was in use, where several accesses of a core may be under way.
 fn write_usage<W: Write>(is_limited: bool, usage: Usage, out: &mut W) -> fmt::Result
     ensures { OnOk result (WritesInCalls W.write_str_gives out.old (usage_members is_limited usage) out.new) }
 {
@@ -111,7 +111,7 @@ fn write_usage<W: Write>(is_limited: bool, usage: Usage, out: &mut W) -> fmt::Re
     )
 }
 
-// How many moves there were and how many of them delivered, where it is said how many deliveries each slice makes.
+// Writes how many moves there were and how many delivered, if it is given how many deliveries each slice makes.
 fn write_pace<W: Write>(
     is_limited: bool,
     is_paced: bool,

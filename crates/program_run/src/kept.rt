@@ -32,12 +32,12 @@ pub(crate) struct Decided {
 #[derive(Drop)]
 pub(crate) struct Kept {
     decided: Vec<Option<Decided>>,
-    /// Of each slice, in how many lines in front of its ring nothing waits.
+    /// For each slice, how many lines at the front of its ring are idle.
     idle: Vec<usize>,
 }
 
 impl Kept {
-    /// Nothing is known of so many cores and slices.
+    /// Nothing is known of `cores` cores and `slices` slices.
     pub fn new(alloc: Global, cores: usize, slices: usize) -> Result<Self, AllocError>
         ensures { IfOk result
             (λ kept. (config : Config) (slices : List PartsView) → Knows config slices kept) }
@@ -48,7 +48,7 @@ impl Kept {
         })
     }
 
-    /// What the machine decides of an access.
+    /// Returns what the machine decides of an access.
     pub fn decide(&mut self, machine: &Machine, core: CoreId, request: Request) -> Decision
         requires core { HasCore machine.now.config core }
         requires kept { Knows machine.now.config machine.now.slices.items self.old }
@@ -97,7 +97,7 @@ impl Kept {
         self.decided[place] = Some(decided);
     }
 
-    // What was decided of the core holds no more.
+    // Forgets what was decided of the core.
     fn forget(&mut self, core: CoreId)
         ensures decided { (config : Config) (old new : List PartsView) → AreDecided config old self.old.decided.items
             → KeepsOthers config core old new → AreDecided config new self.new.decided.items }
@@ -110,7 +110,7 @@ impl Kept {
         self.decided[place] = None;
     }
 
-    /// Nothing is known any more.
+    /// Forgets all that is known.
     pub fn forget_all(&mut self)
         ensures { (config : Config) (slices : List PartsView) → Knows config slices self.new }
     {
@@ -137,7 +137,7 @@ impl Kept {
         }
     }
 
-    /// The next delivery of a slice, if one can be made.
+    /// Returns the next delivery of a slice, if one can be made.
     pub fn next(&mut self, machine: &Machine, slice: usize) -> Option<Pick>
         requires slice { slice < length machine.now.slices.items }
         requires kept { Knows machine.now.config machine.now.slices.items self.old }
@@ -170,7 +170,7 @@ impl Kept {
         Ok(())
     }
 
-    // In how many lines in front of the slice's ring nothing waits.
+    // Returns how many lines at the front of the slice's ring are idle.
     fn idle_of(&self, slice: usize) -> usize
         ensures { result ≡ slice_index_or self.now.idle.items slice 0 }
     {
@@ -204,7 +204,7 @@ impl Kept {
         }
     }
 
-    // Of the idle lines those count that are before this one, and before the one that left last.
+    // Only the idle lines before this one, and before the one that was evicted last, still count.
     fn look_behind(&mut self, machine: &Machine, core: CoreId, line: LineAddr)
         requires { HasCore machine.now.config core }
         ensures decided { self.new.decided ≡ self.old.decided }

@@ -8,11 +8,11 @@ use super::cause::{Cause, Event, Fate};
 use address_map::{CoreId, CoreSet, LineAddr, WordAddr};
 use std::alloc::{AllocError, Global};
 
-/// What has to be known of the events to tell the cause of each miss that may come, of 64 cores.
+/// What must be known of the events to determine the cause of each miss that may come, for 64 cores.
 #[derive(Debug, Drop)]
 pub struct Memory {
     lines: usize,
-    /// For each line what became last of each core's copy.
+    /// For each line, what last became of each core's copy.
     fates: Vec<Fate>,
     /// For each word, the cores for which it was written: by another core, since they lost the line.
     written: Vec<CoreSet>,
@@ -24,7 +24,7 @@ pub struct Memory {
 impl Memory {
     ghost use Rattle.program_run.specs.Memory.{HasPlace, Recalls, fate_in, written_in};
 
-    /// Nothing happened to so many lines.
+    /// Nothing has happened to `lines` lines.
     #[tactic(auto, using(crate::proofs::WordSets::word_sets))]
     pub fn new(alloc: Global, lines: usize) -> Result<Self, AllocError>
         requires { lines ≤ 65536 }
@@ -38,7 +38,7 @@ impl Memory {
         })
     }
 
-    /// Takes note of an event, where there is a place for its core and its line.
+    /// Records an event, if there is a place for its core and its line.
     pub fn note(&mut self, event: Event)
         ensures lines { self.new.lines ≡ self.old.lines }
         ensures recalls { HasPlace self.old.lines event → (before : List Event) → Recalls before self.old
@@ -154,7 +154,7 @@ impl Memory {
         self.has_line(core, line) && self.fate(core, line) == Fate::Held
     }
 
-    /// Why an access of the core to the word misses now. There is no cause where there is no place for them.
+    /// Returns why an access of the core to the word misses now: `None` if there is no place for them.
     pub fn cause(&self, core: CoreId, word: WordAddr) -> Option<Cause>
         ensures place { IsSome result ↔ ((core.0 < 64) × (word.0 < self.now.lines * 8)) }
         ensures cause { IfSome result (λ cause. (before : List Event) → Recalls before self.now

@@ -37,7 +37,7 @@ pub(crate) enum Move {
     Deliver(Pick),
 }
 
-/// Where a core's program stands.
+/// Where a core's program is.
 #[derive(Clone, Copy)]
 pub(crate) struct Place {
     /// How many steps were taken.
@@ -163,8 +163,8 @@ fn may_ask(
     }
 }
 
-// Whether it is plain that a program takes no step: so many of its accesses wait, or there is no such program. It is
-// asked first, since most wait.
+// Whether a program plainly takes no step: the most accesses allowed wait, or there is no such program. It is checked
+// first, since most wait.
 fn has_to_wait(most: Option<u64>, places: &[Place], number: usize) -> bool
     ensures { result ≡ true → (step : Step) → may_step_at most (slice_get places.now number) step ≡ false }
 {
@@ -206,7 +206,7 @@ fn is_tried(stalls: bool, decision: Decision) -> bool
     }
 }
 
-/// How the program of this number goes on, and its core, where that may go on and is one of so many.
+/// Returns how program `number` goes on, and its core, if it may go on and its core is one of `cores`.
 pub(crate) fn next_turn(
     cores: usize,
     programs: &Programs,
@@ -255,7 +255,7 @@ fn may_step(most: Option<u64>, place: Place, step: Step) -> bool
     }
 }
 
-// How many accesses of a core may be under way.
+// Returns how many accesses of a core may be under way.
 fn most_of(most: Option<u64>) -> u64
     ensures { result ≡ most_of most }
 {
@@ -274,7 +274,7 @@ fn turn_of(place: Place, step: Step) -> Turn
     }
 }
 
-/// What the machine would decide of a request.
+/// Returns what the machine would decide of a request.
 pub(crate) fn decide(machine: &Machine, core: CoreId, request: Request) -> Decision
     requires { HasCore machine.now.config core }
     ensures { decision_on machine.now.config machine.now.slices.items core request ≡ Some result }

@@ -64,7 +64,7 @@ impl Observer {
         self.count(Counted::Stall(core, word.line(), stall));
     }
 
-    /// A line left to make room.
+    /// A line was evicted to make room.
     pub fn evict(&mut self, core: CoreId, line: LineAddr)
         ensures { (config : Config) (history : History) → HasSeen config history self.old
             → HasSeen config (after_eviction config.lines core line history) self.new }
@@ -82,7 +82,7 @@ impl Observer {
         self.take_away(pick, front);
     }
 
-    // A core that takes this message may give its copy up to the requester.
+    // A core that takes this message may lose its copy to the requester.
     fn take_away(&mut self, pick: Pick, front: Option<Message>)
         ensures { (config : Config) (history : History) → HasSeen config history self.old
             → HasSeen config (after_taking config.lines pick front history) self.new }

@@ -8,7 +8,7 @@ use super::moves::Move;
 use litmus_script::Machine;
 use std::alloc::{AllocError, Global};
 
-/// How many deliveries each slice makes after an access: none, where no number is said.
+/// Returns how many deliveries each slice makes after an access: 0 if no number is given.
 pub(crate) fn pace_of(pace: Option<u64>) -> u64
     ensures { result ≡ pace_of pace }
 {
@@ -18,14 +18,14 @@ pub(crate) fn pace_of(pace: Option<u64>) -> u64
     }
 }
 
-/// None of so many slices has any to make.
+/// None of `slices` slices has any to make.
 pub(crate) fn nothing_owed(alloc: Global, slices: usize) -> Result<Vec<u64>, AllocError>
     ensures { IfOk result (λ owed. owed.items ≡ replicate slices 0) }
 {
     vec![in alloc; 0; slices]
 }
 
-/// Each slice has so many still to make.
+/// Each slice has `pace` still to make.
 pub(crate) fn owe_all(owed: &mut Vec<u64>, pace: u64)
     ensures { owed.new.items ≡ map (λ left. pace) owed.old.items }
 {
@@ -44,7 +44,7 @@ pub(crate) fn owe_less(owed: &mut Vec<u64>, slice: usize)
     owed[slice] = owed[slice].saturating_sub(1);
 }
 
-/// Lists the deliveries of the first slice that has some still to make, and a message. Nothing is listed before.
+/// Lists the deliveries of the first slice that has some still to make, and a message. `moves` is empty before.
 pub(crate) fn list_owed(
     machine: &Machine,
     owed: &[u64],
@@ -73,7 +73,7 @@ pub(crate) fn is_none(moves: &[Move]) -> bool
     moves.is_empty()
 }
 
-// How many a slice has still to make.
+// Returns how many a slice has still to make.
 fn left_of(owed: &[u64], slice: usize) -> u64
     ensures { result ≡ slice_index_or owed.now slice 0 }
 {
@@ -83,7 +83,7 @@ fn left_of(owed: &[u64], slice: usize) -> u64
     }
 }
 
-// Lists the deliveries that a slice can be asked for, where it has so many still to make.
+// Lists the deliveries that a slice can be asked for, unless `left` is 0.
 fn list_owed_in(
     machine: &Machine,
     slice: usize,

@@ -11,7 +11,7 @@ use program_text::Programs;
 use slice_core::Entry;
 use std::alloc::AllocError;
 
-/// Lists what the slice performed after so many entries.
+/// Lists what the slice performed after its first `before` entries.
 pub(crate) fn list_performed(
     machine: &Machine,
     slice: SliceId,
@@ -25,7 +25,7 @@ pub(crate) fn list_performed(
     Ok(())
 }
 
-// The entries after so many.
+// Returns the entries after the first `before`.
 fn behind(log: &[Entry], before: usize) -> &[Entry]
     ensures { result.now ≡ drop before log.now }
 {

@@ -13,8 +13,8 @@ use std::fmt;
 use std::fmt::Write;
 
 /// Writes a table of the cores, and one of the lines that were asked for, which ends with the sums. Two further tables
-/// of the cores follow it where several accesses of each may be under way, and at last how many moves delivered,
-/// where it is said how many deliveries each slice makes.
+/// of the cores follow it where several accesses of each may be under way, and at the end how many moves delivered,
+/// if it is given how many deliveries each slice makes.
 pub(crate) fn write_report<W: Write>(
     tally: &Tally,
     usages: &[Usage],
@@ -93,7 +93,7 @@ fn write_usage<W: Write>(core: u64, usage: &Usage, out: &mut W) -> fmt::Result
     writeln!(out)
 }
 
-// A mean with two places after the point.
+// Writes a mean with two places after the point.
 fn write_mean<W: Write>(sum: u64, moves: u64, out: &mut W) -> fmt::Result
     ensures { OnOk result (WritesInCalls W.write_str_gives out.old (mean_of sum moves) out.new) }
 {

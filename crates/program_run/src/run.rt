@@ -35,9 +35,9 @@ pub enum Form {
     Json,
 }
 
-/// Runs the programs that a text says in the order that the seed draws, and prints the report. What is given bounds the
-/// run, and else what the text says; where neither says so, one access of a core may be under way, and slices make no
-/// deliveries after an access of their own. Returns the exit status, which is 1 where nothing can move before the end;
+/// Runs the programs of a text in the order that the seed draws, and prints the report. Limits that are given override
+/// those of the text; where neither sets one, one access of a core may be under way, and slices make no
+/// deliveries after an access of their own. Returns the exit status, which is 1 if nothing can move before the end;
 /// then nothing else is printed.
 pub fn run_programs<P: Progress, W: Write>(
     alloc: Global,
@@ -59,7 +59,7 @@ pub fn run_programs<P: Progress, W: Write>(
     run_read(alloc, &programs, seed, form, progress, out)
 }
 
-/// What is given bounds the run, and not what the text says.
+/// Overrides the limits of the text by those that are given.
 pub fn limit(programs: &mut Programs, given: Limits)
     ensures { programs.new ≡ limited_to given programs.old }
 {
@@ -139,7 +139,7 @@ pub(crate) fn run<P: Progress>(
     Ok(())
 }
 
-// One of the moves, each as likely as the others, by the generator's next word.
+// Draws one of the moves, each as likely as the others, by the generator's next word.
 fn draw(generator: &mut Xoshiro256PlusPlus, moves: &[Move]) -> Option<Move>
     ensures some { IfSome result (λ to. drawn_move (plus_plus generator.old).0 moves.now ≡ Some to) }
     ensures next { IfSome result (λ to. generator.new ≡ (plus_plus generator.old).1) }
@@ -151,7 +151,7 @@ fn draw(generator: &mut Xoshiro256PlusPlus, moves: &[Move]) -> Option<Move>
     Some(moves[place_of(generator.next_word(), moves.len())])
 }
 
-// The place that a word draws out of so many. No division is made where these are few.
+// Returns the place that a word draws out of `count`. No division is made where `count` is small.
 fn place_of(word: u64, count: usize) -> usize
     requires { 0 < count }
     ensures place { result ≡ word % count }

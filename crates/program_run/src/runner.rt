@@ -63,10 +63,10 @@ use slice_core::{AccessKind, Decision, Delivered, Entry, Message, Pick, Placemen
 use std::alloc::{AllocError, Global};
 use std::marker::Model;
 
-/// How many moves lie between two times that it is told how far a run has got.
+/// How many moves lie between two reports of progress.
 const BETWEEN: u64 = 65_536;
 
-/// A run on its way: the machine with the calls that are made of it, where each program is, and what was seen.
+/// A run in progress: the machine with the calls that are made of it, where each program is, and what was seen.
 #[derive(Drop)]
 pub(crate) struct Runner {
     machine: Machine,
@@ -92,7 +92,7 @@ impl Model for Runner {
 impl Runner {
     ghost use Rattle.program_run.specs.Run.{IsNewRunner};
 
-    /// Each program stands before its first step, on a new machine. Its calls are kept where they are wanted.
+    /// Each program is before its first step, on a new machine. Its calls are kept if they are wanted.
     pub fn new(alloc: Global, programs: &Programs, wanted: bool) -> Result<Self, AllocError>
         ensures { IfOk result
             (IsNewRunner programs.now.config (bound_of programs.now.misses programs.now.config) programs.now wanted) }
@@ -111,21 +111,21 @@ impl Runner {
         })
     }
 
-    /// The calls that were made of the machine.
+    /// Returns the calls that were made of the machine.
     pub fn calls(&self) -> &[Command]
         ensures { result.now ≡ self.now.calls.made }
     {
         self.calls.made()
     }
 
-    /// What was counted.
+    /// Returns what was counted.
     pub fn tally(&self) -> &Tally
         ensures { result.now ≡ self.now.observer.tally }
     {
         &self.observer.tally
     }
 
-    /// What was measured of each core's accesses.
+    /// Returns what was measured of each core's accesses.
     pub fn usages(&self, alloc: Global, programs: &Programs) -> Result<Vec<Usage>, AllocError>
         ensures { IfOk result
             (λ usages. usages.items ≡ usages_of self.now.config.cores programs.now self.now.places) }
@@ -147,7 +147,7 @@ impl Runner {
         }
     }
 
-    /// Keeps the rings of the slices short, after a move that so many others came before.
+    /// Keeps the rings of the slices short, after a move that follows `made` others.
     pub fn tidy(&mut self, made: u64, kept: &mut Kept)
         requires { Knows self.old.config self.old.slices kept.old }
         ensures tidied { Tidies self.old.config.slices made self.old.slices self.new.slices }
@@ -157,7 +157,7 @@ impl Runner {
         tidy(&mut self.machine, made, kept);
     }
 
-    /// Tells now and then how many of all steps are taken.
+    /// Reports now and then how many of all steps are taken.
     pub fn tell<P: Progress>(&self, made: u64, programs: &Programs, progress: &mut P) {
         if made % BETWEEN == BETWEEN - 1 {
             let taken = steps_taken(self.places.as_slice());
@@ -165,7 +165,7 @@ impl Runner {
         }
     }
 
-    /// Lists what may come next, where each slice has so many deliveries still to make.
+    /// Lists what may come next, where slice `i` has `owed[i]` deliveries still to make.
     pub fn list_moves(
         &self,
         programs: &Programs,
@@ -187,7 +187,7 @@ impl Runner {
         list_moves(&self.machine, programs, self.places.as_slice(), kept, moves)
     }
 
-    /// Says how many deliveries each slice has still to make after the move, before that is made.
+    /// Updates how many deliveries each slice has still to make after the move, before that is made.
     pub fn owe(&self, programs: &Programs, to: Move, owed: &mut Vec<u64>)
         ensures { owed.new.items
             ≡ owed_behind self.now.config programs.now self.now.places to owed.old.items }
@@ -328,7 +328,7 @@ impl Runner {
         }
     }
 
-    // What the slice performed after so many entries is handed out.
+    // Hands out what the slice performed after its first `before` entries.
     fn perform(
         &mut self,
         programs: &Programs,
@@ -404,7 +404,7 @@ fn makes_room(decision: Decision) -> bool
     )
 }
 
-// What an access takes up that is pending, by what was decided of it.
+// Returns what an access takes up that is pending, by what was decided of it.
 fn takes_of(decision: Decision) -> Takes
     ensures { result ≡ takes_of decision }
 {
@@ -414,7 +414,7 @@ fn takes_of(decision: Decision) -> Takes
     }
 }
 
-// Where room was made, the line that left is seen.
+// Notes the line that was evicted, if room was made.
 fn make_room(room: bool, machine: &Machine, observer: &mut Observer, core: CoreId, line: LineAddr)
     requires { HasCore machine.now.config core }
     ensures { (history : History) → HasSeen machine.now.config history observer.old
@@ -430,7 +430,7 @@ fn make_room(room: bool, machine: &Machine, observer: &mut Observer, core: CoreI
     }
 }
 
-// The line that left last in the slice of this line.
+// Returns the line that was evicted last in the slice of this line.
 fn left_in(machine: &Machine, core: CoreId, line: LineAddr) -> Option<LineAddr>
     requires { HasCore machine.now.config core }
     ensures { result ≡ left_in (slice_get machine.now.slices.items (line.0 % machine.now.config.slices)) core }
@@ -531,7 +531,7 @@ fn list_usages(
     Ok(usages)
 }
 
-// What was measured of a core: nothing where it has no program.
+// Returns what was measured of a core: nothing if it has no program.
 fn usage_of(programs: &[CoreProgram], places: &[Place], core: usize) -> Usage
     ensures { result ≡ usage_of programs.now places.now core }
 {

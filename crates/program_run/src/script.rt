@@ -81,7 +81,7 @@ fn print_script<W: io::Write>(
     }
 }
 
-// First what configures the machine, and then each call.
+// Writes what configures the machine, and then each call.
 fn write_script<W: Write>(
     config: &Checked,
     misses: MissKind,

@@ -18,7 +18,7 @@ pub struct Sums {
     pub usage: Usage,
 }
 
-/// Runs programs in the order that the seed draws, and returns the sums of what was counted: nothing where nothing can
+/// Runs programs in the order that the seed draws, and returns the sums of what was counted: none if nothing can
 /// move before the end.
 pub fn count_programs(
     alloc: Global,

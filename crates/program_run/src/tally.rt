@@ -37,15 +37,15 @@ pub(crate) enum Counted {
     Secondary(CoreId, LineAddr),
     /// An access that had to be asked again.
     Stall(CoreId, LineAddr, Stall),
-    /// A line that left to make room.
+    /// A line that was evicted to make room.
     Eviction(CoreId, LineAddr),
     /// A message that was delivered.
     Message(Pick),
 }
 
 impl Counted {
-    /// The core of which it is counted. That of a message is the one that sent the request, or got any other; a block
-    /// on its way home has none.
+    /// Returns the core it is counted for: for a message the sender of a request, or the receiver of any other; a
+    /// block on its way home has none.
     fn core(self) -> Option<CoreId>
         ensures { result ≡ core_of self }
     {
@@ -63,7 +63,7 @@ impl Counted {
         }
     }
 
-    /// The line of which it is counted.
+    /// Returns the line it is counted for.
     fn line(self) -> LineAddr
         ensures { result ≡ line_of self }
     {
@@ -79,7 +79,7 @@ impl Counted {
 }
 
 /// What was counted of a core, or of a line. A count stops at 2^64 - 1.
-// What most lines count stands together, so that fewer cache lines are written.
+// What most lines count is kept together, so that fewer cache lines are written.
 #[derive(Clone, Copy)]
 pub struct Counts {
     pub hits: u64,
@@ -121,7 +121,7 @@ impl Counts {
         }
     }
 
-    /// The misses of all causes.
+    /// Returns the misses of all causes.
     pub fn misses(&self) -> u64
         ensures { result ≡ misses_of self.now }
     {
@@ -132,7 +132,7 @@ impl Counts {
             .saturating_add(self.false_sharing)
     }
 
-    /// The accesses.
+    /// Returns the accesses.
     pub fn requests(&self) -> u64
         ensures { result ≡ requests_of self.now }
     {
@@ -141,7 +141,7 @@ impl Counts {
             .saturating_add(self.secondary)
     }
 
-    /// The stalls for all reasons.
+    /// Returns the stalls for all reasons.
     pub fn stalls(&self) -> u64
         ensures { result ≡ stalls_of self.now }
     {
@@ -152,7 +152,7 @@ impl Counts {
             .saturating_add(self.write_back_busy)
     }
 
-    /// The messages delivered, of all kinds.
+    /// Returns the messages delivered, of all kinds.
     pub fn delivered(&self) -> u64
         ensures { result ≡ delivered_of self.now }
     {
@@ -277,14 +277,14 @@ impl Tally {
         })
     }
 
-    /// The counts of each core.
+    /// Returns the counts of each core.
     pub fn cores(&self) -> &[Counts]
         ensures { result.now ≡ self.now.cores }
     {
         self.cores.as_slice()
     }
 
-    /// The counts of each line.
+    /// Returns the counts of each line.
     pub fn lines(&self) -> &[Counts]
         ensures { result.now ≡ self.now.lines }
     {
@@ -299,7 +299,7 @@ impl Tally {
         count_at(&mut self.lines, what.line().0 as usize, what);
     }
 
-    /// The sums over all lines.
+    /// Returns the sums over all lines.
     pub fn all(&self) -> Counts
         ensures { result ≡ totals_of self.now.lines }
     {

@@ -13,13 +13,13 @@ use litmus_script::Machine;
 use mshr_file::EitherFile;
 use slice_core::{Class, DeliveredNext, SliceState};
 
-/// After so many moves rings are looked at.
+/// Rings are looked at after every `PERIOD` moves.
 const PERIOD: u64 = 32;
 
 /// A ring with more lines is long.
 const LONG: usize = 32;
 
-/// After every 32nd move the lines without messages leave long rings.
+/// Removes the lines without messages from long rings, after every 32nd move.
 pub(crate) fn tidy(machine: &mut Machine, made: u64, kept: &mut Kept)
     requires { Knows machine.old.config machine.old.slices.items kept.old }
     ensures config { machine.new.config ≡ machine.old.config }
@@ -72,7 +72,7 @@ fn deliver_next(machine: &mut Machine, slice: usize, class: Class) -> DeliveredN
     machine.slices[slice].deliver_next(class)
 }
 
-// A class of which a slice with a long ring has no message that can be moved.
+// Returns a class of which a slice with a long ring has no message that can be moved.
 fn tidied_by(state: &SliceState<EitherFile>) -> Option<Class>
     ensures { result ≡ tidied_by (Some state.now) }
 {

@@ -27,7 +27,7 @@ impl Usage {
         }
     }
 
-    /// So many are in use after one more move.
+    /// Returns the usage after one more move, with `registers` and `targets` in use.
     pub fn measured(self, registers: u64, targets: u64) -> Self
         ensures { result ≡ measured registers targets self }
     {
@@ -40,7 +40,7 @@ impl Usage {
         }
     }
 
-    /// What is in use of two cores of one run: the most of either, and the sums of both.
+    /// Returns what is in use of two cores of one run: the most of either, and the sums of both.
     fn with(self, other: Usage) -> Self
         ensures { result ≡ usages_together self other }
     {
@@ -54,7 +54,7 @@ impl Usage {
     }
 }
 
-/// What is in use of all cores of a run.
+/// Returns what is in use of all cores of a run.
 pub(crate) fn usage_of_all(usages: &[Usage]) -> Usage
     ensures { result ≡ usage_of_all no_usage usages.now }
 {
@@ -65,14 +65,14 @@ pub(crate) fn usage_of_all(usages: &[Usage]) -> Usage
     all
 }
 
-/// The whole part of a mean: 0 where nothing was measured.
+/// Returns the whole part of a mean: 0 if nothing was measured.
 pub(crate) fn whole_of(sum: u64, moves: u64) -> u64
     ensures { result ≡ whole_of sum moves }
 {
     if moves == 0 { 0 } else { sum / moves }
 }
 
-/// The hundredths of a mean, which are cut off after the second place.
+/// Returns the hundredths of a mean, which are cut off after the second place.
 pub(crate) fn hundredths_of(sum: u64, moves: u64) -> u64
     ensures hundredths { result ≡ hundredths_of sum moves }
     ensures few { result < 100 }

@@ -33,7 +33,7 @@ settings_kept (t ∷ texts) (o ∷ old) (n ∷ new) same are =
     let first : values_of n ≡ values_of o = ap (λ all. get_or all 0 none) same in
     (subst (Says t) (sym first) are.0, settings_kept texts old new (ap (λ all. drop 1 all) same) are.1)
 
--- these settings are laid out, and make so many rows
+-- these settings are laid out, and make `rows` rows
 pub record AreLaidOut (settings : List Setting) (seeds rows : ℕ) : Type 0 where
   pub spans : map (λ setting. setting.span) settings ≡ spans_of (counts_of settings) seeds
   pub many : rows ≡ rows_of (counts_of settings) seeds

@@ -1,4 +1,4 @@
--- Seeds that a text says.
+-- Seeds that a text gives.
 use Rattle.std.proofs.Common.{◌≡◌, ◌≢◌, ℕ, ◌+◌, ◌-◌, ◌^◌, List, ◌++◌, Option, None, Some, arith, codes, inl, inr, sym, ◌∙◌, ⊎_elim}
 use Rattle.std.specs.Option.{SomeIff}
 use Rattle.std.specs.Str.Parse.{digits_value}
@@ -27,7 +27,7 @@ range_read text first last one other seeds whole begins ends is_first is_last =
       ends = number_read last other (seeds.first + (seeds.count - 1)) ends is_last;
     })
 
--- one was read, and stands for both
+-- one was read, and is both the first and the last
 pub seed_read : (text : List ℕ) (one : Option ℕ) (seeds : Seeds)
     → SomeIff one (IsNumber text) (digits_value 10 text)
     → one ≡ Some seeds.first → one ≡ Some (seeds.first + (seeds.count - 1)) → IsSeeds text seeds
@@ -83,7 +83,7 @@ range_fault text first last one other (faults.SameValue name value) whole begins
 range_fault text first last one other (faults.Twice said) whole begins ends is = absurd is
 range_fault text first last one other faults.NoMemory whole begins ends is = absurd is
 
--- .. and what is wrong with one, which stands for both, is that it is none
+-- .. and what is wrong with one, which is both the first and the last, is that it is none
 pub seed_fault : (text : List ℕ) (one : Option ℕ) (fault : SweepFault)
     → ((first last : List ℕ) → text ≢ first ++ (codes ".." ++ last))
     → SomeIff one (IsNumber text) (digits_value 10 text) → IsBoundsFault text one one fault → IsSeedsFault text fault

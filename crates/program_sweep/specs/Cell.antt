@@ -10,7 +10,7 @@ use Rattle.program_sweep.specs.declared.row.Row.{Row}
 use Rattle.program_sweep.specs.declared.cell.Value.{Value}
 use Rattle.program_sweep.specs.declared.cell.Value.TheVariants as values
 
--- in their order: the counts of all lines stand as in a report
+-- in their order: the counts of all lines come as in a report
 abbrev pub all_cells : List Cell
 all_cells =
     (cells.Cores ∷ cells.Slices ∷ cells.Lines ∷ cells.Sets ∷ cells.Ways ∷ cells.Mshrs ∷ cells.Targets ∷ cells.Writebacks
@@ -52,11 +52,11 @@ abbrev pub number_if : Bool → ℕ → Value
 number_if false number = values.Nothing
 number_if true number = values.Number number
 
--- only where it is said how many accesses of a core may be under way
+-- only if it is given how many accesses of a core may be under way
 abbrev pub if_limited : Row → ℕ → Value
 if_limited row number = number_if (is_limited row.limits.outstanding) number
 
--- only where something bounds the run
+-- only if something bounds the run
 abbrev pub if_bound : Row → ℕ → Value
 if_bound row number = number_if (is_measured row.limits) number
 

@@ -1,4 +1,4 @@
--- The settings and the seeds that a command line says, and the rows that they make.
+-- The settings and the seeds that a command line gives, and the rows that they make.
 use Rattle.std.specs.Prelude.{◌≡◌, ◌≢◌, ◌⊎◌, ℕ, ◌+◌, ◌-◌, ◌*◌, ◌^◌, ◌<◌, ◌≤◌, ◌==◌, true, List, [], ◌∷◌, ◌++◌, Option}
 use Rattle.std.specs.Prelude.{None, Some, codes, length, map}
 use Rattle.std.specs.List.{after_first, before_first, slice_split}
@@ -18,7 +18,7 @@ use Rattle.program_text.specs.declared.programs.Limits.{Limits}
 abbrev pub values_of : Setting → List ℕ × List (List ℕ)
 values_of setting = (setting.name.now, map (λ value. value.now) setting.values.items)
 
--- The text says such a setting: its name is before the first equals sign, and its values after that, between commas.
+-- The text gives such a setting: its name is before the first equals sign, and its values after that, between commas.
 pub record Says (text : List ℕ) (setting : List ℕ × List (List ℕ)) : Type 0 where
   pub name : setting.0 ≡ before_first (λ b. b == 61) text
   pub known : may_vary setting.0 ≡ true
@@ -27,7 +27,7 @@ pub record Says (text : List ℕ) (setting : List ℕ × List (List ℕ)) : Type
 abbrev pub IsSetting : List ℕ → Setting → Type 0
 IsSetting text setting = Says text (values_of setting)
 
--- each text says a setting, in order
+-- each text gives a setting, in order
 abbrev pub AreSettings : List (List ℕ) → List Setting → Type 0
 AreSettings [] [] = Unit {0}
 AreSettings [] (setting ∷ settings) = ⊥
@@ -48,7 +48,7 @@ pub record IsRange (text : List ℕ) (seeds : Seeds) : Type 0 where
   pub begins : IsNumeralOf seeds.first first
   pub ends : IsNumeralOf (seeds.first + (seeds.count - 1)) last
 
--- the text says these seeds: as a range, or one alone
+-- the text gives these seeds: as a range, or one alone
 abbrev pub IsSeeds : List ℕ → Seeds → Type 0
 IsSeeds text seeds = IsRange text seeds ⊎ (IsNumeralOf seeds.first text × (seeds.count ≡ 1))
 
@@ -67,7 +67,7 @@ IsNoSeeds text =
     × ((¬ IsNumber first) ⊎ (¬ IsNumber last)))
     ⊎ (((first last : List ℕ) → text ≢ first ++ (codes ".." ++ last)) × (¬ IsNumber text))
 
--- Why a text says no seeds: it is none of both; or a range that runs backwards; or one of more seeds than can be counted.
+-- Why a text gives no seeds: it is neither; or a range that runs backwards; or one of more seeds than can be counted.
 abbrev pub IsSeedsFault : List ℕ → SweepFault → Type 0
 IsSeedsFault text (faults.BadSeeds said) = (said.now ≡ text) × IsNoSeeds text
 IsSeedsFault text (faults.Backwards said) =
@@ -89,12 +89,12 @@ IsBoundsFault text first last fault = ⊥
 abbrev pub counts_of : List Setting → List ℕ
 counts_of settings = map (λ setting. length setting.values.items) settings
 
--- how many rows there are with so many values and seeds: one for each combination
+-- how many rows there are with these counts of values and `seeds` seeds: one for each combination
 abbrev pub rows_of : List ℕ → ℕ → ℕ
 rows_of [] seeds = seeds
 rows_of (count ∷ counts) seeds = rows_of counts seeds * count
 
--- how many rows with the same value of a setting stand side by side: one for each combination of those after it
+-- how many adjacent rows have the same value of a setting: one for each combination of those after it
 abbrev pub spans_of : List ℕ → ℕ → List ℕ
 spans_of [] seeds = []
 spans_of (count ∷ counts) seeds = rows_of counts seeds ∷ spans_of counts seeds

@@ -1,10 +1,10 @@
--- What a run says.
+-- What a row has of a run.
 use Rattle.std.specs.Prelude.{ℕ}
 use Rattle.program_run.specs.declared.sums.Sums.{Sums}
 use Rattle.program_sweep.specs.declared.row.Row.{Row}
 use Rattle.program_text.specs.declared.programs.Programs.{Programs}
 
--- what the run of programs says that counted so much
+-- the row of a run of these programs that counted these sums
 abbrev pub row_of : Programs → ℕ → Sums → Row
 row_of programs seed sums = record {
   cores = programs.config.cores;

@@ -29,7 +29,7 @@ pub record IsRowOf (programs : Programs) (seed : ℕ) (row : Row) : Type 0 where
   pub counted : IsCounted (bound_of programs.misses programs.config) programs seed (Some sums)
   pub is : row ≡ row_of programs seed sums
 
--- the row is that of the text with the settings and the seed of the row of this number, bounded as settings or the command
+-- the row is that of the text with the settings and the seed of row `number`, bounded as settings or the command
 -- line say
 pub record HasRun (input : List ℕ) (sweep : Sweep) (number : ℕ) (row : Row) : Type 0 where
   pub read : Programs
@@ -52,7 +52,7 @@ AreRows input sweep program form first [] = Unit {0}
 AreRows input sweep program form first (text ∷ more) =
     IsRow input sweep program form first text × AreRows input sweep program form (first + 1) more
 
--- so many rows from this one on are written
+-- `count` rows from row `first` on are written
 pub record PrintsRows (input : List ℕ) (sweep : Sweep) (program : List ℕ) (form : RowForm) (first count : ℕ)
     (before after : Option (List ℕ)) : Type 0 where
   pub texts : List (List ℕ)
@@ -72,13 +72,13 @@ pub record PrintsSweep (input : List ℕ) (sweep : Sweep) (program : List ℕ) (
 abbrev pub MakesRow : List ℕ → Sweep → ℕ → Result Row Refusal → Type 0
 MakesRow input sweep number made = IfOk made (HasRun input sweep number)
 
--- each of so many of these, from this row on
+-- each of `count` of these, from row `first` on
 abbrev pub MakesRows : List ℕ → Sweep → ℕ → ℕ → List (Result Row Refusal) → Type 0
 MakesRows input sweep first count made =
     (place : ℕ) (d : Result Row Refusal) → place < count
     → MakesRow input sweep (first + place) (slice_index_or made place d)
 
--- want of memory is told as such, and not as a row's refusal
+-- running out of memory is reported as such, and not as a row's refusal
 abbrev pub IsRowFault : RowFault → Type 0
 IsRowFault (row_faults.Row row refusal) = refusal ≢ refusals.Text text_faults.NoMemory
 IsRowFault fault = Unit {0}

@@ -13,7 +13,7 @@ use Rattle.program_sweep.specs.declared.name.Bound.TheVariants as bound_kinds
 use Rattle.program_sweep.specs.declared.seeds.Seeds.{Seeds}
 use Rattle.program_sweep.specs.declared.setting.Setting.{Setting}
 
--- the words with which the lines begin that configure, and whether of lines of one word the last counts
+-- the first words of lines that configure, and whether the last of the lines that begin with one counts
 abbrev pub names : List (List ℕ × Bool)
 names =
     (codes "cores", true) ∷ (codes "slices", true) ∷ (codes "lines", true) ∷ (codes "sets", true)
@@ -29,7 +29,7 @@ abbrev pub begins_as_setting : List (List ℕ) → Bool
 begins_as_setting [] = true
 begins_as_setting (word ∷ words) = is_name word
 
--- the line configures, or says nothing
+-- the line configures, or has no words
 abbrev pub configures : List ℕ → Bool
 configures line = begins_as_setting (words_of_line line)
 
@@ -72,15 +72,15 @@ bounds bound_kinds.Pace name = is_some (value_named ((codes "pace", true) ∷ []
 abbrev pub is_bound : List ℕ → Bool
 is_bound name = bounds bound_kinds.Outstanding name || bounds bound_kinds.Pace name
 
--- of lines that begin with the word the last counts
+-- the last of the lines that begin with the word counts
 abbrev pub replaces : List ℕ → Bool
 replaces word = unwrap_or (value_named names word) false
 
--- a setting of this name may vary: a later line of it takes the place of an earlier one, or it has none
+-- a setting of this name may vary: a later line of it replaces an earlier one, or it has none
 abbrev pub may_vary : List ℕ → Bool
 may_vary name = is_bound name || replaces name
 
--- the line that sets it, which there is of each other setting
+-- the line that sets it: none where the setting bounds a run
 abbrev pub line_of_setting : ℕ → Setting → List ℕ
 line_of_setting row setting =
     if is_bound setting.name.now then []
@@ -98,7 +98,7 @@ abbrev pub bounding_in : Bound → List Setting → Option Setting
 bounding_in bound [] = None
 bounding_in bound (setting ∷ more) = if bounds bound setting.name.now then Some setting else bounding_in bound more
 
--- so many are allowed in a row: as many as that setting says, or else as many as the command line says
+-- the bound of a row: the number in that setting, or else the one that is given on the command line
 abbrev pub IsBoundBy : Option Setting → Option ℕ → ℕ → Option ℕ → Type 0
 IsBoundBy None given row most = most ≡ given
 IsBoundBy (Some setting) given row most = IsNumberIn (value_in setting row) most

@@ -7,7 +7,7 @@ use address_map::PolicyKind;
 use mshr_file::MissKind;
 use program_run::Column;
 
-/// What stands in a cell.
+/// What is in a cell.
 #[derive(Clone, Copy)]
 pub(crate) enum Value {
     Number(u64),
@@ -38,9 +38,9 @@ pub(crate) enum Cell {
     Seed,
     /// A count over all lines.
     Count(Column),
-    /// .. which is counted only where it is said how many accesses of a core may be under way.
+    /// .. which is counted only if it is given how many accesses of a core may be under way.
     Further(Column),
-    /// How many moves there were, which are counted only where something bounds the run.
+    /// How many moves there were, which are counted only if something bounds the run.
     Moves,
     RegistersMost,
     RegistersSum,
@@ -93,7 +93,7 @@ static CELLS: [Cell; 42] = [
     Cell::TargetsSum,
 ];
 
-/// All of them, in their order.
+/// Returns all of them, in their order.
 pub(crate) fn cells() -> &'static [Cell]
     ensures { result.now ≡ all_cells }
 {
@@ -101,7 +101,7 @@ pub(crate) fn cells() -> &'static [Cell]
 }
 
 impl Cell {
-    /// What it is called.
+    /// Returns its name.
     pub fn name(self) -> &'static str
         ensures { result.now ≡ name_of self }
     {
@@ -129,7 +129,7 @@ impl Cell {
         }
     }
 
-    /// What a row has there.
+    /// Returns what a row has there.
     pub fn value(self, row: &Row) -> Value
         ensures { result ≡ value_in self row.now }
     {
@@ -169,14 +169,14 @@ fn if_given(number: Option<u64>) -> Value
     }
 }
 
-// A number that is counted only where it is said how many accesses of a core may be under way.
+// Returns a number that is counted only if it is given how many accesses of a core may be under way.
 fn if_limited(row: &Row, number: u64) -> Value
     ensures { result ≡ if_limited row.now number }
 {
     number_if(row.limits.is_limited(), number)
 }
 
-// .. or only where something bounds the run.
+// .. or only if something bounds the run.
 fn if_bound(row: &Row, number: u64) -> Value
     ensures { result ≡ if_bound row.now number }
 {

@@ -49,7 +49,7 @@ pub enum RowFault {
 }
 
 impl SweepFault<'_> {
-    /// The exit status of a program that stops at this fault.
+    /// Returns the exit status of a program that stops at this fault.
     pub const fn status(&self) -> u8 {
         match self {
             SweepFault::NoMemory => 3,
@@ -59,7 +59,7 @@ impl SweepFault<'_> {
 }
 
 impl Refusal {
-    /// The exit status of a program that stops at this refusal.
+    /// Returns the exit status of a program that stops at this refusal.
     pub const fn status(&self) -> u8 {
         match self {
             Refusal::Text(fault) => fault.status(),

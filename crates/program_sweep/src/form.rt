@@ -77,7 +77,7 @@ fn push(out: &mut Vec<u8>, bytes: &[u8]) -> Result<(), AllocError>
     out.extend_from_slice(bytes)
 }
 
-/// What follows all rows.
+/// Returns what follows all rows.
 pub(crate) fn end_of(form: RowForm) -> &'static [u8]
     ensures { result.now ≡ end_of form }
 {
@@ -155,7 +155,7 @@ fn push_cell(out: &mut Vec<u8>, layout: Layout, cell: Cell, row: &Row) -> Result
     }
 }
 
-// Nothing where there is nothing.
+// Adds nothing where there is nothing.
 fn push_plain(out: &mut Vec<u8>, value: Value) -> Result<(), AllocError>
     ensures { OnOk result (out.new.items ≡ out.old.items ++ plain_of value) }
 {
@@ -168,7 +168,7 @@ fn push_plain(out: &mut Vec<u8>, value: Value) -> Result<(), AllocError>
     }
 }
 
-// A number as it is, and any other value between quotes.
+// Adds a number as it is, and any other value between quotes.
 fn push_json(out: &mut Vec<u8>, value: Value) -> Result<(), AllocError>
     ensures { OnOk result (out.new.items ≡ out.old.items ++ json_of value) }
 {

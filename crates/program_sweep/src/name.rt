@@ -1,10 +1,10 @@
-//! The names of settings: the words with which the lines begin that configure a machine, and what bounds a run.
+//! The names of settings: the first words of the lines that configure a machine, and what bounds a run.
 ghost use Rattle.std.specs.Prelude.{◌≡◌};
 ghost use Rattle.program_sweep.specs.Text.{bounds, is_bound, is_name, may_vary, replaces};
 
 use litmus_text::value_named;
 
-/// Each word, and whether of lines that begin with it the last counts.
+/// Each word, and whether the last of the lines that begin with it counts.
 static NAMES: [(&[u8], bool); 13] = [
     (b"cores", true),
     (b"slices", true),
@@ -21,7 +21,7 @@ static NAMES: [(&[u8], bool); 13] = [
     (b"counter", false),
 ];
 
-/// What bounds a run, which no line says that configures.
+/// What bounds a run. No line that configures sets it.
 #[derive(Clone, Copy, Debug, PartialEq, Eq)]
 pub(crate) enum Bound {
     /// How many accesses of a core may be under way.
@@ -41,14 +41,14 @@ pub(crate) fn is_name(word: &[u8]) -> bool
     value_named(&NAMES, word).is_some()
 }
 
-/// Whether a setting of this name may vary: a later line of it takes the place of an earlier one, or it bounds a run.
+/// Whether a setting of this name may vary: a later line of it replaces an earlier one, or it bounds a run.
 pub(crate) fn may_vary(name: &[u8]) -> bool
     ensures { result ≡ may_vary name.now }
 {
     is_bound(name) || replaces(name)
 }
 
-// Whether a later line that begins with the word takes the place of an earlier one.
+// Whether a later line that begins with the word replaces an earlier one.
 fn replaces(word: &[u8]) -> bool
     ensures { result ≡ replaces word.now }
 {

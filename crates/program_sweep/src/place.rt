@@ -6,7 +6,7 @@ use super::seeds::Seeds;
 use super::setting::Setting;
 
 impl<'a> Setting<'a> {
-    /// Its value in the row of this number.
+    /// Returns its value in row `row`.
     pub(crate) fn value_in(&self, row: u64) -> &'a str
         ensures { result.now ≡ value_in self.now row }
     {
@@ -16,7 +16,7 @@ impl<'a> Setting<'a> {
 }
 
 impl Seeds {
-    /// The seed of the row of this number.
+    /// Returns the seed of row `row`.
     pub(crate) fn seed_in(self, row: u64) -> u64
         ensures { result ≡ seed_in self row }
     {

@@ -3,7 +3,7 @@
 use super::form::RowForm;
 use std::alloc::{AllocError, Global};
 
-/// A text as it is in rows of this form: between quotes in JSON, and in CSV where it would not be one cell else.
+/// Returns a text as it is in rows of this form: quoted in JSON, and in CSV if it would not be one cell otherwise.
 pub fn program_name(alloc: Global, form: RowForm, text: &str) -> Result<Vec<u8>, AllocError> {
     let bytes = text.as_bytes();
     match form {
@@ -20,7 +20,7 @@ fn csv_cell(alloc: Global, bytes: &[u8]) -> Result<Vec<u8>, AllocError> {
     }
 }
 
-// Whether a byte ends a cell of CSV, or begins one between quotes.
+// Whether a byte ends a cell of CSV, or begins a quoted one.
 fn parts_cells(byte: u8) -> bool {
     matches!(byte, b',' | b'"' | b'\n' | b'\r')
 }

@@ -1,4 +1,4 @@
-//! What a run says: its settings, its seed, and the sums of what was counted.
+//! What a row has of a run: its settings, its seed, and the sums of what was counted.
 ghost use Rattle.std.specs.Prelude.{◌≡◌};
 ghost use Rattle.program_sweep.specs.Row.{row_of};
 
@@ -7,7 +7,7 @@ use mshr_file::MissKind;
 use program_run::Sums;
 use program_text::{Limits, Programs};
 
-/// What a run says: its settings, its seed, and the sums of what was counted.
+/// What a row has of a run: its settings, its seed, and the sums of what was counted.
 #[derive(Clone, Copy)]
 pub(crate) struct Row {
     pub cores: u64,
@@ -26,7 +26,7 @@ pub(crate) struct Row {
     pub sums: Sums,
 }
 
-/// What the run of programs says that counted so much.
+/// Returns the row of a run of the programs that counted `sums`.
 pub(crate) fn row_of(programs: &Programs, seed: u64, sums: Sums) -> Row
     ensures { result ≡ row_of programs.now seed sums }
 {

@@ -44,7 +44,7 @@ impl Seeds {
         }
     }
 
-    // The seeds from the first to the last, which the text was to say.
+    // Returns the seeds from `first` to `last`, as they were read from the text.
     fn between<'a>(
         text: &'a str,
         first: Option<u64>,

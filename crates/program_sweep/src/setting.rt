@@ -7,12 +7,12 @@ use litmus_text::{ConfigLine, Settings, first_words, parse_number};
 use program_text::{MOST_OUTSTANDING, MOST_PACE};
 use std::alloc::{AllocError, Global};
 
-/// A setting that varies: the word with which its lines begin, and its values in their order.
+/// A setting that varies: the word that its lines begin with, and its values in their order.
 #[derive(Debug, Drop)]
 pub struct Setting<'a> {
     pub name: &'a str,
     pub values: Vec<&'a str>,
-    /// How many rows with the same value stand side by side.
+    /// How many adjacent rows have the same value.
     pub span: u64,
     ghost spans: { 0 < span },
     ghost some: { 0 < length values.items },
@@ -92,7 +92,7 @@ fn push_value<'a>(
 }
 
 // Whether the name and the value write a line that configures a machine, or the value bounds a run. It is written in one
-// way, so that rows with the same value say the same.
+// way, so that rows with the same value show the same text.
 fn is_value(alloc: Global, name: &str, value: &str) -> Result<bool, AllocError> {
     if !is_canonical(value.as_bytes()) {
         return Ok(false);
@@ -106,7 +106,7 @@ fn is_value(alloc: Global, name: &str, value: &str) -> Result<bool, AllocError> 
     is_allowed(alloc, line.as_slice())
 }
 
-// Whether no blank stands around a value, and no zero before other digits.
+// Whether a value has no blanks around it, and no leading zeros.
 fn is_canonical(value: &[u8]) -> bool {
     match value {
         [b' ' | b'\t', ..] | [.., b' ' | b'\t'] => false,
@@ -115,7 +115,7 @@ fn is_canonical(value: &[u8]) -> bool {
     }
 }
 
-// Whether there is a machine with this line and all else as it is where a text says nothing.
+// Whether there is a machine with this line and the defaults of all else.
 fn is_allowed(alloc: Global, line: &[u8]) -> Result<bool, AllocError> {
     let words = first_words(line);
     let Ok(line) = ConfigLine::parse(words.as_slice()) else {

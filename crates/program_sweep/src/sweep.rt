@@ -30,8 +30,8 @@ pub const MOST_ROWS: u64 = 1_000_000;
 /// The most runs that a thread makes before their rows are written.
 pub const MOST_RUNS: u64 = 64;
 
-/// How many accesses a thread makes before rows are written, in runs of as many as those before: to start a thread takes
-/// as long as some thousands.
+/// How many accesses a thread makes before rows are written, if its runs are as long as those before: starting a
+/// thread takes as long as some thousands.
 const ACCESSES: u64 = 20_000;
 
 /// Which runs there are: one for each combination of values, in the order given, the last setting fastest, and for each
@@ -40,9 +40,9 @@ const ACCESSES: u64 = 20_000;
 pub struct Sweep<'a> {
     pub settings: Vec<Setting<'a>>,
     pub seeds: Seeds,
-    /// What bounds each run, where that isn't what the text says, and no setting.
+    /// What bounds each run instead of what the text says, where no setting does.
     pub limits: Limits,
-    /// How many there are.
+    /// How many rows there are.
     pub rows: u64,
 }
 
@@ -80,7 +80,7 @@ impl<'a> Sweep<'a> {
     }
 }
 
-// Whether a setting of this name stands among these, or is given already.
+// Whether a setting of this name is among these, or is given already.
 fn is_set(settings: &[Setting<'_>], limits: Limits, name: &str) -> bool {
     is_given(limits, name.as_bytes()) || settings.iter().any(|setting| setting.name == name)
 }
@@ -90,7 +90,7 @@ fn is_given(limits: Limits, name: &[u8]) -> bool {
     is_limited || (limits.is_paced() && bounds(Bound::Pace, name))
 }
 
-// Gives each setting its span, the last one first. Returns how many rows there are, if a sweep may have so many.
+// Gives each setting its span, the last one first. Returns the number of rows, if a sweep may have that many.
 fn lay_out(settings: &mut Vec<Setting<'_>>, seeds: u64) -> Option<u64>
     requires { 0 < seeds }
     ensures kept { IfSome result (λ rows.
@@ -130,7 +130,7 @@ fn read_settings<'a>(
     Ok(settings)
 }
 
-/// Runs the text once for each row, side by side, and writes the rows, those that are made together as soon as they are.
+/// Runs the text once for each row, in parallel, and writes the rows, those that are made together as soon as they are.
 /// The program's name is in each as the form writes it. A text that can't be run with some settings ends the rows
 /// before them.
 pub fn run_sweep<R: Threads + Sync, P: Progress, W: Write>(
@@ -174,7 +174,7 @@ fn threads_of<R: Threads>(rt: &R) -> usize
     }
 }
 
-// Makes these rows side by side, and writes them. Returns how many of the next ones each thread may make.
+// Makes these rows in parallel, and writes them. Returns how many of the next ones each thread may make.
 fn run_batch<R: Threads + Sync, W: Write>(
     alloc: Global,
     rt: &R,
@@ -220,7 +220,7 @@ fn make_rows<R: Threads + Sync>(
     Ok(made)
 }
 
-// Makes each row by its place, in so many threads.
+// Makes each row by its place, in `threads` threads.
 fn fill_rows<R: Threads + Sync>(
     alloc: Global,
     rt: &R,
@@ -246,7 +246,7 @@ fn fill_rows<R: Threads + Sync>(
     );
 }
 
-// How many runs such as these have as many accesses as a thread makes before rows are written.
+// Returns how many runs such as these have the accesses that a thread makes before rows are written.
 fn share_behind(rows: &[Result<Row, Refusal>]) -> u64 {
     let Some(last) = rows.last() else {
         return 1;
@@ -398,7 +398,7 @@ fn run_row(alloc: Global, programs: &Programs, seed: u64) -> Result<Row, Refusal
     }
 }
 
-// What bounds the run of a row, where a setting or the command line says so.
+// Returns what bounds the run of a row, if a setting or the command line sets it.
 fn limits_in(settings: &[Setting<'_>], given: Limits, row: u64) -> Limits
     ensures { AreLimitsIn settings.now given row result }
 {
@@ -419,7 +419,7 @@ fn bound_in(bound: Bound, settings: &[Setting<'_>], given: Option<u64>, row: u64
     given
 }
 
-// How many lines the settings add.
+// Returns how many lines the settings add.
 fn lines_added(settings: &[Setting<'_>]) -> usize {
     let mut count: usize = 0;
     for setting in settings {
@@ -430,7 +430,7 @@ fn lines_added(settings: &[Setting<'_>]) -> usize {
     count
 }
 
-// A fault of a text with so many lines more, by the number of its line without them.
+// Returns the fault of a text with `added` lines more, with the number that its line has without them.
 fn in_input(input: &[u8], added: usize, fault: TextFault) -> TextFault {
     match fault {
         TextFault::Line { number, fault } if number > lines_that_configure(input) =>
@@ -442,7 +442,7 @@ fn in_input(input: &[u8], added: usize, fault: TextFault) -> TextFault {
     }
 }
 
-// How many lines are before the first that doesn't configure.
+// Returns how many lines are before the first that doesn't configure.
 fn lines_that_configure(input: &[u8]) -> usize {
     let mut count: usize = 0;
     for line in Lines::of(input) {

@@ -9,7 +9,7 @@ use super::setting::Setting;
 use litmus_text::{Lines, Words};
 use std::alloc::{AllocError, Global};
 
-/// The text with the settings of a row.
+/// Returns the text with the settings of a row.
 pub(crate) fn with_settings(
     alloc: Global,
     input: &[u8],
@@ -22,7 +22,7 @@ pub(crate) fn with_settings(
     insert(alloc, input, added.as_slice())
 }
 
-// The text with lines before its first line that doesn't configure.
+// Returns the text with lines added before its first line that doesn't configure.
 fn insert(alloc: Global, input: &[u8], added: &[u8]) -> Result<Vec<u8>, AllocError>
     ensures { IfOk result (λ text. text.items ≡ with_settings added.now (lines input.now)) }
 {
@@ -67,7 +67,7 @@ fn push_line(text: &mut Vec<u8>, line: &[u8]) -> Result<(), AllocError>
     text.extend_from_slice(b"\n")
 }
 
-/// Whether a line configures, or says nothing.
+/// Whether a line configures, or has no words.
 pub(crate) fn configures(line: &[u8]) -> bool
     ensures { result ≡ configures line.now }
 {

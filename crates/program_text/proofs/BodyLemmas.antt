@@ -18,7 +18,7 @@ use Rattle.program_text.specs.Fault.{program_of}
 use Rattle.program_text.specs.Judged.{count_of}
 use Rattle.program_text.specs.Text.{Program, access_to, last_steps, spread, times, with_steps, written_out}
 
--- an access more of a range
+-- one more access of a range
 pub spread_more : (op : Op) (first word : ℕ) (old now : List Step) → first ≤ word
     → now ≡ old ++ map (access_to op) (range_with_len first (word - first))
     → now ++ access_to op word ∷ [] ≡ old ++ map (access_to op) (range_with_len first (word + 1 - first))
@@ -28,7 +28,7 @@ spread_more op first word old now order is =
     rw (is, count, more)
     (append_assoc old (map (access_to op) (range_with_len first (word - first))) (access_to op word ∷ []))
 
--- a step more of those that are there already
+-- one more of the steps that are there already
 pub again_more : (old now : List Step) (start place : ℕ) (step : Step) → start ≤ place → place < length old
     → now ≡ old ++ slice_range old start place → step ≡ get_or now place step
     → now ++ step ∷ [] ≡ old ++ slice_range old start (place + 1)
@@ -67,7 +67,7 @@ pub spread_all : (op : Op) (first last word : ℕ) (old now : List Step) → wor
 spread_all op first last word old now at is =
     is ∙ ap (λ k. old ++ map (access_to op) (range_with_len first (k - first))) at
 
--- all of them stand there once more
+-- all of them are there once more
 pub times_next : (n : ℕ) (body : List Step) → times n body ++ body ≡ times (suc n) body
 times_next zero body = sym (append-nil body)
 times_next (suc n) body =
@@ -218,6 +218,6 @@ count_changed change (program ∷ earlier) some =
     let first : last_steps (program ∷ earlier) ≡ length program.1 = refl in
     omega (arith, after, before, last, first)
 
--- a block more, the innermost first
+-- one more block, the innermost first
 pub blocks_push : (front : List Block) (last : Block) → reverse (front ++ last ∷ []) ≡ last ∷ reverse front
 blocks_push front last = simp reverse-append

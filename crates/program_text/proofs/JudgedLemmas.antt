@@ -28,7 +28,7 @@ use Rattle.program_text.specs.Text.{said_settle, written_out}
 use Rattle.program_text.specs.declared.programs.Step.TheVariants as step_kinds
 use Rattle.program_text.proofs.BodyLemmas.{count_ended, count_settled, count_spread}
 
--- the first test that is so
+-- the first test that holds
 pub so_here : (test : Bool) (fault : LineFault) (more : List (Bool × LineFault)) → test ≡ true
     → first_so ((test, fault) ∷ more) ≡ Some fault
 unfolding first_so
@@ -72,7 +72,7 @@ pub too_many_settled : (said : Said) → 1 ≤ length said.programs
     → nat_lt 1000000 (count_of said.programs + 1) ≡ has_too_many (said_settle said)
 too_many_settled said some = ap (nat_lt 1000000) (sym (count_settled said.programs some))
 
--- where nothing is wrong, no test is so
+-- where nothing is wrong, no test holds
 pub none_so : (test : Bool) (fault : LineFault) (more : List (Bool × LineFault))
     → first_so ((test, fault) ∷ more) ≡ None → (test ≡ false) × (first_so more ≡ None)
 unfolding first_so

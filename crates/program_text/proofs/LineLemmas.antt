@@ -1,4 +1,4 @@
--- The words with which lines begin.
+-- The words that lines begin with.
 use Rattle.std.proofs.Common.{◌≡◌, ◌≢◌, ℕ, ◌+◌, List, [], ◌∷◌, length, get_or, map, refl, arith, subst}
 use Rattle.std.specs.Prelude.{codes, IsTrue}
 use Rattle.litmus_text.proofs.FieldLemmas.{field_name, is_no_field, no_field_name}

@@ -1,4 +1,4 @@
--- The words with which the lines of programs begin.
+-- The words that the lines of programs begin with.
 use Rattle.std.specs.Prelude.{◌≡◌, ◌≢◌, ℕ, List, [], ◌∷◌, Option, None, Some, codes, length}
 use Rattle.litmus_text.specs.Table.{value_named}
 use Rattle.litmus_text.specs.declared.fault.LineFault.{LineFault}

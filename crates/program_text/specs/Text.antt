@@ -50,7 +50,7 @@ access_to op word = step_kinds.Access (record { word = record { 0 = word }; op =
 abbrev pub spread : ℕ → ℕ → Op → List Step
 spread first last op = map (access_to op) (range_with_len first (last + 1 - first))
 
--- the steps so many times
+-- the steps `n` times
 abbrev pub times : ℕ → List Step → List Step
 times zero steps = []
 times (suc n) steps = steps ++ times n steps

@@ -22,7 +22,7 @@
 pub use cache::{text_of_effect, write_cache_table};
 pub use cache_json::write_cache_cells;
 pub use cache_rows::{CacheCase, Counted, accesses, cache_rule, messages, sample_of, states};
-pub use directory::{Holders, text_of_home, write_directory_table};
+pub use directory::{Holders, RowText, text_of_home, write_directory_table};
 pub use directory_json::write_directory_cells;
 pub use directory_rows::{
     DirCase, DirEffect, DirMessage, DirRule, Entry, Owns, Shares, Sharing, dir_cases,

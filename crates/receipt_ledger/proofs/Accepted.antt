@@ -84,7 +84,7 @@ module _ (v : View) (standing : IsStanding v) (waiting : List Asked) (marks : Li
         let at : ℕ → Target → Asked = λ n target. request_of_target (first_word v (record { 0 = n })) core target in
         first.same ∙ ap (λ n. at n first.target) one.0 ∙ ap (at second.local.0) one.1 ∙ sym second.same
 
-    -- As many wait under a number as targets have it.
+    -- A number waits as often as targets have it.
     waits-as-targets : count_by test waiting ≡ count_of (has_seq seq) (cache_at v core).misses
     waits-as-targets = elim (cases_lt 0 (count_of (has_seq seq) (cache_at v core).misses)) [
       | inl some ↦

@@ -17,7 +17,7 @@ use Rattle.slice_log.specs.declared.entry.Entry.{Entry}
 use Rattle.slice_core_theory.specs.SmallMachine.{Asked, Can, IsSame, SmallMachine, Run, accept, after, entry_for, hand}
 use Rattle.slice_core_theory.specs.SmallMachine.{new_small_machine, perform}
 
--- one more that is handed out is counted as such, wherever it stands
+-- one more that is handed out is counted as such, wherever it is
 pub totals-one_more : (words : List WordAddr) (n : ℕ) (e : Entry) (old new : List Entry) → OneMore e old new
     → totals words n new ≡ together (totals words n old) (only_handed words e)
 totals-one_more words n e old new one =

@@ -20,8 +20,8 @@ module _ (words : List WordAddr) where
       ∙ totals_accepted words 0 n [] ∙ ap (λ t. together t (only_accepted n)) (totals_nil words)
       ∙ together_comm nothing (only_accepted n) ∙ together_nothing (only_accepted n)
 
-  -- So many receipts of a port were given back: its requests and their entries are what the one has less and the other
-  -- more, and the entries of the others are still there to give.
+  -- The first `given` receipts of a port were given back: its requests and their entries are what the one has less and
+  -- the other more, and the entries of the others are still there to give.
   pub record GivesBack (accepted : ℕ) (receipts : List Receipt) (given : ℕ) (whole left got : Totals) : Type 0 where
     pub sum : together left (totals words accepted (entries_of (take given receipts))) ≡ whole
     pub got_is : got ≡ totals words accepted (entries_of (take given receipts))

@@ -45,7 +45,7 @@ got (x ∷ xs) (suc i) within =
 
 -- ---- places among all receipts
 
--- At this place among the receipts of all ports stands this one, of this port.
+-- At this place among the receipts of all ports is this one, of this port.
 abbrev StandsAt : List PortView → ℕ → PortView → Receipt → Type 0
 StandsAt [] place p r = ⊥
 StandsAt (q ∷ ports) place p r =

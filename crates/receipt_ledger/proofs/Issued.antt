@@ -1,5 +1,5 @@
 -- A request that isn't refused stores to no counter, and what is done at once is the last of the log.
-use Rattle.std.proofs.Common.{◌≡◌, ℕ, ◌⊎◌, Bool, true, false, not, if◌then◌else◌, length, Ok, Err, Option, Some, None}
+use Rattle.std.proofs.Common.{◌≡◌, ℕ, ◌⊎◌, Bool, true, false, not, if◌then◌else◌, length, Ok, Option, Some, None}
 use Rattle.std.proofs.Common.{refl, ⊎_elim}
 use Rattle.std.specs.Prelude.{◌&&◌, nat_lt}
 use Rattle.address_map.specs.Locator.{is_past, local_at}
@@ -18,6 +18,7 @@ use Rattle.slice_core_cache.specs.Tags.{is_free}
 use Rattle.slice_core_cache.specs.declared.access.AccessKind.{AccessKind}
 use Rattle.slice_core_cache.specs.declared.access.AccessKind.TheVariants as access_kinds
 use Rattle.slice_core_spec.specs.Decision.{decision_at, decision_of, is_counter, overwrites}
+use Rattle.slice_core_spec.specs.Calls.{AfterDecision}
 use Rattle.slice_core_spec.specs.Calls.{PartsView, AfterAccepting, AfterAccess, AfterIssue, IsAccepted, LacksMemory}
 use Rattle.slice_core_spec.specs.View.{View, cache_at}
 use Rattle.slice_core_spec.specs.declared.decision.Decision.{Decision}
@@ -50,12 +51,8 @@ placed v core request local access false (Some here) is =
     (decisions.Access here (access_of (cache_at v core) here request.tag request.op)) local access is
 
 module _ (old : PartsView) (core : CoreId) (request : Request) (issue : Issue) (new : PartsView) where
-  -- what an issue leaves that isn't refused, by what was decided
-  abbrev by_decision : Decision → Type 0
-  by_decision (decisions.Refuse why) = (Ok issue ≡ Err why) × (new ≡ old)
-  by_decision (decisions.Access local access) = AfterAccess access old core request local (Ok issue) new
-
-  spares : (decision : Decision) → decision_of old.view core request ≡ decision → by_decision decision
+  spares : (decision : Decision) → decision_of old.view core request ≡ decision
+      → AfterDecision decision old core request (Ok issue) new
       → stores_to old.view.counters request.op request.word ≡ false
   spares (decisions.Refuse why) is after = absurd (cc (after.0))
   spares (decisions.Access local access) is after =
@@ -89,7 +86,7 @@ module _ (old : PartsView) (core : CoreId) (request : Request) (number : ℕ) (n
   accessed local (access_kinds.PrimaryMiss next ask placement) after =
       let_in local (access_kinds.PrimaryMiss next ask placement) after
 
-  last : (decision : Decision) → by_decision old core request (issues.Done number) new decision
+  last : (decision : Decision) → AfterDecision decision old core request (Ok (issues.Done number)) new
       → number ≡ length old.view.log
   last (decisions.Refuse why) after = absurd (cc (after.0))
   last (decisions.Access local access) after = accessed local access after

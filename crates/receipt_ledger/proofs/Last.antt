@@ -15,7 +15,7 @@ last-pushed receipts r last is =
     sym (get_or_from_slice_get (receipts ++ r ∷ []) (length (receipts ++ r ∷ []) - 1) last r is)
     ∙ get_or_push receipts r r (length (receipts ++ r ∷ []) - 1) (omega (arith, long))
 
--- It has the number that the slice answered.
+-- It has the number that the slice returned.
 pub done-number : (old new : PortView) (request : Request) (number : ℕ) (last : Receipt)
     → AfterAsking old request (Ok (issues.Done number)) new → IsLastOf new.receipts last → last.number ≡ number
 done-number old new request number last after is =

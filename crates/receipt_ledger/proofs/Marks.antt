@@ -16,7 +16,7 @@ handed_out-waiting (entry ∷ log) (true ∷ marks) e sized =
     ap (λ entries. entry ∷ entries) (handed_out-waiting log marks e (omega (arith, sized)))
 handed_out-waiting (entry ∷ log) (false ∷ marks) e sized = handed_out-waiting log marks e (omega (arith, sized))
 
--- One entry more is handed out, wherever it stands among the others.
+-- One entry more is handed out, wherever it is among the others.
 pub record OneMore (e : Entry) (old new : List Entry) : Type 0 where
   pub before : List Entry
   pub later : List Entry

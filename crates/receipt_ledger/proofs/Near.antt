@@ -16,7 +16,7 @@ module _ {X : Type 0} (xs : List X) (x : X) where
     abbrev pub NotNearer : ℕ → Type 0
     NotNearer distance = (i : ℕ) → place ≤ i + distance → i < place + distance → slice_get xs i ≡ Some x → ⊥
 
-    -- It stands so far from the place, after it or before it.
+    -- It is `distance` from the place, after it or before it.
     abbrev pub IsSoFar : ℕ → Type 0
     IsSoFar distance =
         (slice_get xs (place + distance) ≡ Some x)

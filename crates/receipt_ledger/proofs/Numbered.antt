@@ -1,5 +1,5 @@
 -- Elements that are picked and numbered: where each number below a bound is that of one element of two lists, and no
--- other number is, as many are picked in both as the bound says.
+-- other number is, the number picked in both is the bound.
 use Rattle.std.proofs.Common.{◌≡◌, ℕ, zero, suc, ◌+◌, ◌<◌, ◌≤◌, Bool, true, false, List, [], ◌∷◌, length, get_or, refl}
 use Rattle.std.proofs.Common.{inl, inr, arith, eq-eqb, lt-ltb}
 use Rattle.std.specs.Prelude.{◌==◌, ◌&&◌, nat_lt, count_by, All}

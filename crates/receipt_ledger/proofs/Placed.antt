@@ -1,4 +1,4 @@
--- What a slice answers says where the request's word lies, and of its tag and its access what configuration and request
+-- A slice's answer says where the request's word lies, and of its tag and its access what configuration and request
 -- say.
 use Rattle.std.proofs.Common.{◌≡◌, ℕ, ◌*◌, ◌/◌, ◌%◌, ◌<◌, ◌≤◌, Bool, true, false, not, if◌then◌else◌, List, Ok, Err}
 use Rattle.std.proofs.Common.{Result, Option, Some, None, inl, inr, refl, sym, subst, arith}
@@ -24,7 +24,7 @@ use Rattle.slice_core_cache.specs.CoreCache.{tag_at}
 use Rattle.slice_core_cache.specs.Tags.{is_free}
 use Rattle.slice_core_cache.specs.declared.access.AccessKind.{AccessKind}
 use Rattle.slice_core_cache.specs.declared.access.AccessKind.TheVariants as access_kinds
-use Rattle.slice_core_spec.specs.Calls.{PartsView, AfterAccess, AfterIssue}
+use Rattle.slice_core_spec.specs.Calls.{PartsView, AfterAccess, AfterIssue, AfterDecision}
 use Rattle.slice_core_spec.specs.View.{cache_at}
 use Rattle.slice_core_spec.specs.declared.decision.Decision.{Decision}
 use Rattle.slice_core_spec.specs.declared.decision.Decision.TheVariants as decisions
@@ -108,17 +108,13 @@ module _ (c : Config) (number : ℕ) where
       | inr is ↦ accepted fit _ is.4
     ]
 
-    -- what an issue answers and leaves, by what was decided
-    abbrev by_decision : Decision → Type 0
-    by_decision (decisions.Refuse why) = (answer ≡ Err why) × (new ≡ old)
-    by_decision (decisions.Access local access) = AfterAccess access old core request local answer new
-
     -- In the slice the tag is judged, and then what is done to a counter.
     tested : IsHere request → (small busy counter : Bool) → nat_lt request.tag 64 ≡ small
         → stores_to (counters_of c number) request.op request.word ≡ counter → (local : Local) (access : AccessKind)
-        → by_decision (if not small then decisions.Refuse refusals.TagRange
+        → AfterDecision (if not small then decisions.Refuse refusals.TagRange
         else if busy then decisions.Refuse refusals.TagBusy
-        else if counter then decisions.Refuse refusals.CounterStore else decisions.Access local access)
+        else if counter then decisions.Refuse refusals.CounterStore else decisions.Access local access) old core
+        request answer new
         → Says request answer
     tested here false busy counter range stores local access after =
         subst (Says request) (sym after.0) (here, ltb-false request.tag 64 range)
@@ -140,7 +136,8 @@ module _ (c : Config) (number : ℕ) where
 
     placed : IsAllowed c → (past : Bool) (found : Option Local) → is_past own request.word ≡ past
         → local_at own (line_of request.word).0 ≡ found
-        → by_decision (if past then decisions.Refuse refusals.OutOfRange else by_place (counters_of c number) found)
+        → AfterDecision (if past then decisions.Refuse refusals.OutOfRange else by_place (counters_of c number) found)
+        old core request answer new
         → Says request answer
     placed allowed true found out at after =
         subst (Says request) (sym after.0) (past-out allowed request.word out)
@@ -160,13 +157,13 @@ module _ (c : Config) (number : ℕ) where
         placed allowed (is_past own request.word) (local_at own (line_of request.word).0) refl refl
         (subst
         (λ (l : Lines).
-        by_decision
+        AfterDecision
         (if is_past l request.word then decisions.Refuse refusals.OutOfRange
-        else by_place (counters_of c number) (local_at l (line_of request.word).0)))
+        else by_place (counters_of c number) (local_at l (line_of request.word).0)) old core request answer new)
         lines
         (subst
         (λ (words : List WordAddr).
-        by_decision
+        AfterDecision
         (if is_past old.view.lines request.word then decisions.Refuse refusals.OutOfRange
-        else by_place words (local_at old.view.lines (line_of request.word).0)))
+        else by_place words (local_at old.view.lines (line_of request.word).0)) old core request answer new)
         counters after))

@@ -1,4 +1,4 @@
--- What one entry adds stands at the place of its word, and nowhere else.
+-- What one entry adds is at the place of its word, and nowhere else.
 use Rattle.std.proofs.Common.{◌≡◌, ℕ, ◌<◌, ◌≤◌, ◌==◌, Bool, true, false, cond, List, [], ◌∷◌, length, get_or, ⊎_elim}
 use Rattle.std.proofs.Common.{Some, None, refl, sym, ap, ◌∙◌, arith, zero-add, eqb, eq-eqb, position}
 use Rattle.std.specs.Prelude.{if◌then◌else◌}

@@ -1,4 +1,4 @@
--- What a port's streaks tell, and that they still tell it when more is kept.
+-- What a port's streaks give, and that they still give it when more is kept.
 use Rattle.std.proofs.Common.{◌≡◌, ℕ, zero, suc, ◌+◌, ◌-◌, ◌<◌, ◌≤◌, ◌^◌, List, [], ◌∷◌, ◌++◌, get_or, length}
 use Rattle.std.proofs.Common.{length-append, map, if◌then◌else◌, inl, inr, Some, None, refl, sym, ap, subst, ◌∙◌, arith}
 use Rattle.std.proofs.Common.{nat_lt}
@@ -54,7 +54,7 @@ agree f g (suc n) same =
     ∙ ap (λ (a : Ask). map g (range_with_len 0 n) ++ a ∷ []) (same n (omega arith))
     ∙ sym (map-range_with_len_more g 0 n n (omega arith)))
 
--- One request more, where the earlier ones are told as before.
+-- One request more, where the earlier ones are given as before.
 one-more : (streaks later : List Streak) (accepted : ℕ) (receipts given : List Receipt) (ask : Ask)
     → ((seq : ℕ) → seq < accepted → told later given seq ≡ told streaks receipts seq)
     → told later given accepted ≡ ask

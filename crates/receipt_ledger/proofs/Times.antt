@@ -1,5 +1,5 @@
--- How often numbers are in a list: where each of so many stands at least once in a list that is no longer, each
--- stands just once, and no other does.
+-- How often numbers occur in a list: where each number below a bound occurs at least once in a list that is no longer,
+-- each occurs just once, and no other does.
 use Rattle.std.proofs.Common.{◌≡◌, ℕ, zero, suc, ◌+◌, ◌<◌, ◌≤◌, Bool, true, false, if◌then◌else◌, List, [], ◌∷◌, length}
 use Rattle.std.proofs.Common.{Some, refl, sym, ap, subst, inl, inr, arith, eq-eqb, lt-ltb}
 use Rattle.std.specs.Prelude.{◌==◌, nat_lt, slice_get}
@@ -50,7 +50,7 @@ below-most n (x ∷ xs) =
     let rest = below-most n xs in
     omega (arith, one, rest)
 
--- Each of the numbers below the bound stands in the list.
+-- Each of the numbers below the bound is in the list.
 abbrev StandAll : ℕ → List ℕ → Type 0
 StandAll n xs = (k : ℕ) → k < n → 1 ≤ times k xs
 
@@ -88,7 +88,7 @@ all-below n (y ∷ ys) full (suc i) x there =
     let one = one-most (nat_lt y n) in
     all-below n ys (omega (arith, full, most, one)) i x there
 
--- What stands at a place is counted.
+-- What is at a place is counted.
 pub counted-at : (k : ℕ) (xs : List ℕ) (i : ℕ) → slice_get xs i ≡ Some k → 1 ≤ times k xs
 counted-at k [] i there = absurd (cc)
 counted-at k (x ∷ xs) zero there =
@@ -96,7 +96,7 @@ counted-at k (x ∷ xs) zero there =
     omega (arith, one)
 counted-at k (x ∷ xs) (suc i) there = let rest = counted-at k xs i there in omega (arith, rest)
 
--- What stands just once stands at one place.
+-- What occurs just once is at one place.
 pub one-place : (k : ℕ) (xs : List ℕ) (i j : ℕ) → times k xs ≡ 1 → slice_get xs i ≡ Some k → slice_get xs j ≡ Some k
     → i ≡ j
 one-place k [] i j once here there = absurd (cc)
@@ -114,7 +114,7 @@ one-place k (x ∷ xs) (suc i) (suc j) once here there =
     let more = counted-at k xs i here in
     ap (λ n. suc n) (one-place k xs i j (omega (arith, most, more, once)) here there)
 
--- Where each number below the list's length stands in it, each stands just once, and all are below it.
+-- Where each number below the list's length is in it, each occurs just once, and all are below it.
 pub record AreOnce (xs : List ℕ) : Type 0 where
   pub once : (k : ℕ) → k < length xs → times k xs ≡ 1
   pub within : (i x : ℕ) → slice_get xs i ≡ Some x → x < length xs

@@ -56,7 +56,7 @@ totals_append words n m es fs =
     (sums words (es ++ fs)) (plus (sums words es) (sums words fs))
     refl (length-append es fs) (sums_append words es fs)
 
--- so many requests more are accepted
+-- m requests more are accepted
 pub totals_accepted : (words : List WordAddr) (n m : ℕ) (es : List Entry)
     → totals words (n + m) es ≡ together (totals words n es) (only_accepted m)
 totals_accepted words n m es =

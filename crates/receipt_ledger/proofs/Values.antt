@@ -120,7 +120,7 @@ initial-here c number word own =
 some-both : {X : Type 0} (x : X) (a b : Bool) → a ≡ true → b ≡ true → IsSome (if a && b then Some x else None)
 some-both x a b first second = rw (first, second) refl
 
--- A line of the slice is one of as many as it has.
+-- A line of the slice is below the number of its lines.
 below-even : (lines slices line : ℕ) → IsSliceCount slices → lines % slices ≡ 0 → line < lines
     → line / slices < lines / slices
 unfolding IsSliceCount

@@ -1,4 +1,4 @@
--- What a port's calls answer, and what they leave.
+-- What a port's calls return, and what they leave.
 use Rattle.std.specs.Prelude.{◌≡◌, ◌⊎◌, ◌<◌, ◌≤◌, ◌-◌, ℕ, true, false, List, [], ◌∷◌, length, slice_get, Option, Some}
 use Rattle.std.specs.Prelude.{None, Result, Ok, Err}
 use Rattle.std.specs.Option.{option_map}
@@ -48,7 +48,7 @@ abbrev pub IsUndone : Result Issue Refused → Type 0
 IsUndone (Ok (issues.Done number)) = ⊥
 IsUndone asked = Unit {0}
 
--- The port's answer tells what the slice's does.
+-- The port's answer says what the slice's does.
 abbrev pub Tells : Result Issue Refused → Result Answer Refused → Type 0
 Tells (Ok (issues.Done number)) (Ok (answers.Done r)) = r.number ≡ number
 Tells (Ok (issues.Pending seq)) (Ok answers.Pending) = Unit {0}
@@ -56,7 +56,7 @@ Tells (Ok (issues.Stall stall)) (Ok (answers.Stall told)) = told ≡ stall
 Tells (Err refused) (Err told) = told ≡ refused
 Tells issue answer = ⊥
 
--- Nobody asks the slice, and nothing has changed: the port's lists got no room, or the log is shorter than what the
+-- The slice isn't asked, and nothing has changed: the port's lists got no room, or the log is shorter than what the
 -- port has seen of it.
 abbrev pub IsUnasked : {X : Type 0} → PartsView → PortView → Result X Refused → PartsView → Type 0
 IsUnasked {X} old port answer new =
@@ -64,12 +64,12 @@ IsUnasked {X} old port answer new =
     ⊎ ((length old.view.log < port.seen) × (answer ≡ Err (refusals.Ahead (length old.view.log)))))
     × (new ≡ old)
 
--- The slice was asked, whose log is at least as long as what the port has seen of it; or nobody asked it.
+-- The slice was asked, whose log is at least as long as what the port has seen of it; or it wasn't asked.
 abbrev pub AsksFor : PartsView → PortView → Request → Result Issue Refused → PartsView → Type 0
 AsksFor old port request issue new =
     ((port.seen ≤ length old.view.log) × AfterIssue old port.core request issue new) ⊎ IsUnasked old port issue new
 
--- The same, where the port's answer tells what the slice's does.
+-- The same, where the port's answer says what the slice's does.
 abbrev pub AsksSlice : PartsView → PortView → Request → Result Answer Refused → PartsView → Type 0
 AsksSlice old port request answer new =
     (issue : Result Issue Refused) × AsksFor old port request issue new × Tells issue answer
@@ -86,7 +86,7 @@ pub record IsAtSlice (c : Config) (number : ℕ) (word : WordAddr) : Type 0 wher
 
 -- What configuration and request alone say of an answer of the slice of this number. A request is judged in this order:
 -- whether its word lies past the memory, or in another slice; whether its tag is above 63, or in flight; and whether it
--- stores to a counter. Want of memory, or a log that is too short, may be told in place of any of these.
+-- stores to a counter. Failed allocation, or a log that is too short, may be reported instead of any of these.
 abbrev pub IsJudged : {X : Type 0} → Config → ℕ → Request → Result X Refused → Type 0
 IsJudged {X} c number request (Err refusals.OutOfRange) = word_count c ≤ request.word.0
 IsJudged {X} c number request (Err refusals.WrongSlice) =
@@ -102,7 +102,7 @@ IsJudged {X} c number request (Ok answer) =
     IsAtSlice c number request.word × (request.tag < 64)
     × (stores_to (counters_of c number) request.op request.word ≡ false)
 
--- What a port has after a request that was answered so: what is accepted is counted, and what is done at once is
+-- What a port has after a request with this answer: what is accepted is counted, and what is done at once is
 -- handed out.
 abbrev pub AfterRequest : PortView → Request → Result Answer Refused → PortView → Type 0
 AfterRequest old request (Ok (answers.Done r)) new =
@@ -124,8 +124,8 @@ AfterAsking old request (Err refused) new = IsWithRoom old new
 abbrev pub receipt_of : SliceId → Numbered → Receipt
 receipt_of slice given = record { slice = slice; number = given.number; entry = given.entry }
 
--- The slice is asked for a reply where the port has a request in flight, and what it hands out is told; where the port
--- has none, nothing is asked.
+-- The slice is asked for a reply where the port has a request in flight, and what it hands out is returned; where the
+-- port has none, nothing is asked.
 pub record AsksReply (old : PartsView) (port : PortView) (answer : Option Receipt) (new : PartsView) : Type 0 where
   pub flying : length port.receipts < length port.asked
       → (given : Option Numbered) × AfterHand old port.core given new
@@ -166,7 +166,7 @@ pub record IsDone (counters : List WordAddr) (log : List Entry) (number : ℕ) (
 
 -- ---- the steps of the small machine that a call is
 
--- of a request that is answered so
+-- of a request with this answer
 abbrev pub answer_steps : Asked → Result Answer Refused → List Step
 answer_steps asked (Ok (answers.Done r)) = accept asked ∷ perform asked ∷ hand r.number ∷ []
 answer_steps asked (Ok answers.Pending) = accept asked ∷ []

@@ -15,7 +15,7 @@ receipts_in (p ∷ ports) = p.receipts ++ receipts_in ports
 abbrev pub request_of : Entry → Request
 request_of e = record { op = e.op; word = e.word; tag = e.tag }
 
--- Under the entry's place among the port's requests stands the request that it performed, and by then the port had seen
+-- At the entry's place among the port's requests is the request that it performed, and by then the port had seen
 -- no more of the log than was there before the entry of this number.
 abbrev pub HasAsked : PortView → ℕ → Entry → Type 0
 HasAsked p number e = IsSomeAnd (slice_get p.asked e.seq) (λ ask. (ask.request ≡ request_of e) × (ask.seen ≤ number))
@@ -45,7 +45,7 @@ pub record IsAccounted (p : PortView) (log : List Entry) (r : Receipt) : Type 0 
   pub genuine : slice_get log r.number ≡ Some r.entry
   pub asked : HasAsked p r.number r.entry
 
--- The ports' receipts, by number, are exactly the log: each number stands once, with the log's entry, at the port that
+-- The ports' receipts, by number, are exactly the log: each number occurs once, with the log's entry, at the port that
 -- asked for it.
 pub record AreHistory (ports : List PortView) (log : List Entry) : Type 0 where
   pub once : (number : ℕ) → number < length log → times number (map (λ r. r.number) (receipts_in ports)) ≡ 1

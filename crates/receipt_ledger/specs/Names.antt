@@ -11,7 +11,7 @@ pub record AreCounters (c : Config) (number : ℕ) (words : List WordAddr) : Typ
   pub few : length words ≤ 8
   pub ascending : IsAscendingBy (λ word. word.0) words
 
--- ten ledgers that no type stands for yet: their names in order, and how many parts each has
+-- ten ledgers that no type represents yet: their names in order, and how many parts each has
 pub record Unopened : Type 0 where
   pub names : List ℕ
   pub parts : ℕ

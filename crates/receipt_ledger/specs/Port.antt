@@ -20,9 +20,9 @@ pub record PortView : Type 0 where
   pub slice : SliceId
   -- the requests that were accepted through it, in this order
   pub asked : List Ask
-  -- those that were handed out, in the order in which they were
+  -- the receipts, in the order in which they were handed out
   pub receipts : List Receipt
-  -- one more than the greatest number of a receipt that it got or was told of, and 0 before the first
+  -- one more than the greatest number of a receipt that it got or learned of, and 0 before the first
   pub seen : ℕ
   pub room : Room
 
@@ -101,7 +101,7 @@ with_receipt p r = record (with_seen p r.number) { receipts = p.receipts ++ r �
 abbrev pub IsWithRoom : PortView → PortView → Type 0
 IsWithRoom p new = new ≡ record p { room = new.room }
 
--- There is a port for each of so many cores, ascending, and nothing was asked for through any.
+-- There is a port for each of `cores` cores, ascending, and nothing was asked for through any.
 pub record AreFreshPorts (slice : SliceId) (cores : ℕ) (ports : List PortView) : Type 0 where
   pub long : length ports ≡ cores
   pub each : (core : CoreId) → core.0 < cores → slice_get ports core.0 ≡ Some (fresh_port core slice)

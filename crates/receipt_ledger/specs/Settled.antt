@@ -20,8 +20,8 @@ abbrev pub accepted_in : List PortView → ℕ
 accepted_in [] = 0
 accepted_in (p ∷ ports) = length p.asked + accepted_in ports
 
--- The ports of a quiet slice account for it: as many requests were accepted through them as were handed out, and as the
--- log has entries; the receipts are exactly the log, which is legal and in each core's order; each counter's receipts
+-- The ports of a quiet slice account for it: the requests accepted through them are as many as those handed out, and as
+-- the log's entries; the receipts are exactly the log, which is legal and in each core's order; each counter's receipts
 -- add up to what the log adds to it; and so does its value, which is the state's, modulo 2^64.
 pub record IsSettled (c : Config) (number : ℕ) (v : View) (ports : List PortView) (values : List ℕ) : Type 0 where
   pub accepted : accepted_in ports ≡ length v.log

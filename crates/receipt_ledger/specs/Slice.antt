@@ -8,8 +8,8 @@ use Rattle.address_map.specs.Place.{counters_of, init_of}
 use Rattle.slice_core.specs.Shape.{Shape, shape_of}
 use Rattle.slice_core_spec.specs.View.{View, cache_at}
 
--- A core's part is built as the machine is configured: so many sets of so many ways, replaced by this policy, and room
--- for so many lines that leave.
+-- A core's part is built as the machine is configured: its sets and their ways, the policy that replaces lines, and the
+-- capacity of the write-back buffer.
 pub record IsBuiltAs (c : Config) (shape : Shape) : Type 0 where
   pub ways : shape.ways ≡ replicate c.sets c.ways
   pub policy : shape.policy ≡ c.policy

@@ -15,7 +15,7 @@ pub record Sums : Type 0 where
   pub c6 : ℕ
   pub c7 : ℕ
 
--- what a share of the eight has: so many parts of each, and these sums
+-- what a share of the eight has: `parts` parts of each, and these sums
 pub record Held : Type 0 where
   pub parts : ℕ
   pub sums : Sums

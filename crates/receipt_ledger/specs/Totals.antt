@@ -10,19 +10,19 @@ pub record Totals : Type 0 where
   pub handed : ℕ
   pub counters : Sums
 
--- what a share has: so many parts of each ledger, and what it holds of the totals
+-- what a share has: `parts` parts of each ledger, and what it holds of the totals
 pub record Amounts : Type 0 where
   pub parts : ℕ
   pub held : Totals
 
--- where so many requests were accepted, and these entries handed out
+-- where `accepted` requests were accepted, and these entries handed out
 abbrev pub totals : List WordAddr → ℕ → List Entry → Totals
 totals words accepted entries = record { accepted = accepted; handed = length entries; counters = sums words entries }
 
 abbrev pub nothing : Totals
 nothing = record { accepted = 0; handed = 0; counters = zeros }
 
--- so many requests accepted, and none handed out
+-- n requests accepted, and none handed out
 abbrev pub only_accepted : ℕ → Totals
 only_accepted n = record { accepted = n; handed = 0; counters = zeros }
 

@@ -17,13 +17,13 @@ pub(crate) struct Streak {
     ask: Ask,
     /// The first one's number.
     first: usize,
-    /// Where the receipt of the one after it stands, if there is one.
+    /// The place of the receipt of the one after it, if there is one.
     receipts: usize,
 }
 
 /// What was asked through a port and what was handed out. A request that is done at once is named by its receipt, and
-/// the receipt before tells what had been seen, so it isn't kept a second time. Most requests are done so, and each
-/// byte that is written to a list that grows costs more than the search in a short one. Contracts see an `AccountView`.
+/// the receipt before says what had been seen, so it isn't kept a second time. Most requests are done so, and each
+/// byte that is written to a growing list costs more than the search in a short one. Contracts see an `AccountView`.
 #[derive(Drop)]
 pub(crate) struct Account {
     /// The accepted requests, in this order, which numbers them.
@@ -76,7 +76,7 @@ impl Account {
         Some(told_in(&self.receipts, &self.streaks[begun - 1], seq))
     }
 
-    /// The receipts of the requests that were handed out, in the order in which they were.
+    /// Returns the receipts, in the order in which they were handed out.
     pub(crate) fn receipts(&self) -> &[Receipt]
         ensures { result.now ≡ self.now.receipts }
     {
@@ -183,7 +183,7 @@ pub(crate) fn request_of(entry: &Entry) -> Request
 }
 
 // Whether one more request that is done at once belongs to the last streak: each receipt since is of that, and the last
-// one tells that so much was seen.
+// one says that `seen` entries were seen.
 fn goes_on(streaks: &[Streak], accepted: usize, receipts: &[Receipt], seen: u64) -> bool
     requires { AreStreaks streaks.now accepted receipts.now }
     ensures { IsTrue result → GoesOn streaks.now accepted receipts.now seen }
@@ -198,8 +198,8 @@ fn goes_on(streaks: &[Streak], accepted: usize, receipts: &[Receipt], seen: u64)
     }
 }
 
-// Makes room for one more request, and for the receipts of all requests and of that one. It stands apart, since most
-// requests find room.
+// Makes room for one more request, and for the receipts of all requests and of that one. It is a separate function,
+// since most requests find room.
 #[cold]
 #[inline(never)]
 fn grow(

@@ -4,7 +4,7 @@ use super::counters::CounterBlanks;
 use std::marker::Model;
 use std::sync::ledger::Blank;
 
-/// The ten ledgers of a slice before any type stands for them, all of as many parts.
+/// The ten ledgers of a slice before any type represents them, all with the same number of parts.
 #[derive(Drop)]
 pub struct Blanks {
     pub(crate) accepted: Blank,
@@ -27,7 +27,7 @@ impl Model for Blanks {
 }
 
 impl Blanks {
-    /// Ledgers of so many parts. A slice wants one for each core.
+    /// Creates ledgers of `parts` parts. A slice needs one for each core.
     pub fn new(parts: u64) -> Blanks
         ensures { result.parts ≡ parts }
     {

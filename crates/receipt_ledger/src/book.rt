@@ -24,7 +24,7 @@ use slice_log::Entry;
 use std::boxed::BoxedSlice;
 use std::marker::Model;
 
-/// What the ports of a slice hold together: its book lies beside the slice's state, and a port's share moves only with
+/// What the ports of a slice hold together: its book is next to the slice's state, and a port's share moves only with
 /// it. Contracts see it as its `Totals`.
 #[derive(Drop)]
 pub struct Book<N: SliceNames> {
@@ -73,8 +73,8 @@ impl<N: SliceNames> Book<N> {
         }
     }
 
-    /// The same, with the slice's own answer. The receipt of what was done at once is the port's last: whoever has
-    /// state and book behind a lock may give it back before that is copied.
+    /// The same, with the slice's own answer. The receipt of what was done at once is the port's last: a caller with
+    /// state and book behind a lock may release it before that is copied.
     pub fn ask<F: MissFile>(
         &mut self,
         state: &mut SliceState<F>,
@@ -139,7 +139,7 @@ impl<N: SliceNames> Book<N> {
         }
     }
 
-    /// Tells the port of a receipt, which another core of the slice may have got.
+    /// Notifies the port of a receipt, which another core of the slice may have got.
     pub fn learn<F: MissFile>(
         &self,
         state: &SliceState<F>,

@@ -9,7 +9,7 @@ use std::marker::Model;
 use std::mem;
 use std::sync::ledger::{Blank, Book, Ledger, Share};
 
-/// The eight counters' ledgers before any type stands for them, all of as many parts.
+/// The eight counters' ledgers before any type represents them, all with the same number of parts.
 #[derive(Drop)]
 pub(crate) struct CounterBlanks {
     c0: Blank,
@@ -38,7 +38,7 @@ impl Model for CounterBlanks {
         × (b.c5.parts ≡ b.c0.parts) × (b.c6.parts ≡ b.c0.parts) × (b.c7.parts ≡ b.c0.parts) };
 }
 
-/// A share of each of the eight counters' ledgers, all of as many parts.
+/// A share of each of the eight counters' ledgers, all with the same number of parts.
 #[derive(Drop)]
 pub(crate) struct CounterShares<N: SliceNames> {
     c0: Share<Led<N, 2>>,
@@ -119,7 +119,7 @@ pub(crate) fn pour<L: Ledger>(from: &mut Share<L>, to: &mut Share<L>)
 }
 
 impl CounterBlanks {
-    /// Ledgers of so many parts.
+    /// Creates ledgers of `parts` parts.
     pub(crate) fn new(parts: u64) -> CounterBlanks
         ensures { result.parts ≡ parts }
     {
@@ -277,7 +277,7 @@ impl<N: SliceNames> CounterBooks<N> {
         }
     }
 
-    /// Changes nothing, and says how the share's sums stand to the book's.
+    /// Changes nothing, and says how the share's sums relate to the book's.
     #[tactic(auto, using(crate::proofs::Sums::at_most))]
     pub(crate) fn audit(&mut self, share: &mut CounterShares<N>)
         ensures book { self.new ≡ self.old }

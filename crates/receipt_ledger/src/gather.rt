@@ -34,7 +34,7 @@ pub(crate) fn gather<N: SliceNames, T: Lends<Port<N>, K>, const K: usize>(
     }
 }
 
-// The same with the port that the first one lends.
+// The same with the port that is borrowed from the first one.
 #[cycle(gather)]
 fn gather_first<N: SliceNames, T: Lends<Port<N>, K>, const K: usize>(
     books: &mut Books<N>,

@@ -51,7 +51,7 @@ impl<N: SliceNames> Port<N> {
     }
 
     // Whether it has the receipt of the entry of this number. That is looked for from the request's own place outwards:
-    // it stands as far from there as requests overtook it and it overtook. Each overtakes fewer than the 64 that a core
+    // it is as far from there as requests overtook it and it overtook. Each overtakes fewer than the 64 that a core
     // can have in flight, so the looks for all receipts of a port grow with their number, though those for one may be
     // many.
     fn has_receipt(&self, number: u64, entry: &Entry) -> bool
@@ -88,7 +88,7 @@ fn is_among(receipts: &[Receipt], place: u64, wanted: &Receipt) -> bool
     false
 }
 
-// Whether the receipt stands so far from the place, after it or before it.
+// Whether the receipt is `distance` from the place, after it or before it.
 fn is_so_far(receipts: &[Receipt], place: usize, distance: usize, wanted: &Receipt) -> bool
     requires place { place ≤ length receipts.now }
     requires distance { distance < length receipts.now }

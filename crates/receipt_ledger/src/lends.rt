@@ -1,7 +1,7 @@
 ghost use Rattle.std.specs.Prelude.{◌≡◌};
 ghost use Rattle.std.specs.Borrow.{Lends as lent, sem};
 
-/// Lends a part of itself, as a core lends its port of the slice with the number `K`.
+/// A type that returns references to a part of itself, as a core to its port of the slice with the number `K`.
 pub trait Lends<P, const K: usize> {
     ghost part: { Self → P };
 
@@ -17,7 +17,7 @@ pub trait Lends<P, const K: usize> {
     ghost same: { (x : Self) → with_part x (part x) ≡ x };
 }
 
-/// What lends all of itself: a port that nobody else holds.
+/// A port that nothing else holds: the part is all of it.
 #[derive(Drop)]
 pub struct Alone<P> {
     pub port: P,

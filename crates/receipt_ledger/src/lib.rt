@@ -1,7 +1,7 @@
 //! The receipts that a slice's callers hold, and the book that goes with them.
 //!
-//! A [`Port`] is that through which one core asks one slice: it counts the requests that were accepted, and keeps a
-//! [`Receipt`] of each one that was handed out. A [`Book`] lies beside the slice's state and has the totals of all its
+//! Through a [`Port`] one core asks one slice: it counts the requests that were accepted, and keeps a
+//! [`Receipt`] of each one that was handed out. A [`Book`] is next to the slice's state and has the totals of all its
 //! ports. Each port holds a share of every total, and a share moves only with the book, so what the ports hold together
 //! is what the slice accepted and handed out: no request is lost, doubled or made up, and no sum of a counter is off.
 //!
@@ -19,12 +19,12 @@
 //!   call, and what the port has then. [`Book::ask`] leaves the receipt to be copied later, from the port
 //!   ([`Port::last`]).
 //! - [`Book::hand_out`] hands out a reply, as the slice does.
-//! - [`Book::learn`] tells a port of a receipt that another port got.
-//! - [`Book::settle`] looks at a quiet slice with all its ports, each lent by whoever holds it ([`Lends`]): the ports
+//! - [`Book::learn`] notifies a port of a receipt that another port got.
+//! - [`Book::settle`] looks at a quiet slice with all its ports, each borrowed from its holder ([`Lends`]): the ports
 //!   hold a receipt of each entry of the log, as they asked for it, and the value of each counter is its initial value
 //!   and the sum of what their receipts add to it, modulo 2^64.
 //!
-//! That a state and a book belong together (`IsTied` of `specs/Booked.antt`) is asked of whoever calls, and kept. The
+//! That a state and a book belong together (`IsTied` of `specs/Booked.antt`) is required of the caller, and kept. The
 //! slice is seen there as the small machine of `slice_core_theory`: how many requests wait and were performed, and
 //! which entries of the log are handed out. Deliveries and evictions of the state keep it too
 //! ([`deliveries_keep_the_book`]). What the book counts as accepted is what the cores had accepted

@@ -4,7 +4,7 @@ ghost use Rattle.address_map.specs.declared.config.Config.{Config};
 use std::marker::{Brand, PhantomData};
 use std::sync::ledger::Ledger;
 
-/// Which slice a share, a book or a lock is of. It exists in proofs alone: whoever builds a slice picks it.
+/// Which slice a share, a book or a lock is of. It exists in proofs alone: the caller that builds a slice picks it.
 pub trait SliceNames {
     /// The configuration, its counters and initial values included.
     ghost setup: { Config };

@@ -18,8 +18,8 @@ use slice_core::SliceState;
 use std::alloc::{AllocError, Global};
 
 impl<N: SliceNames> Book<N> {
-    /// A slice of the configured machine in which nothing was asked for yet, its book, and a port for each core,
-    /// ascending.
+    /// Returns a slice of the configured machine in which nothing was requested yet, its book, and a port for each
+    /// core, ascending.
     pub fn open<F: MissFile>(
         alloc: Global,
         config: &Checked,

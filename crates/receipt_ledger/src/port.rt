@@ -16,7 +16,7 @@ use slice_log::Entry;
 use std::alloc::{AllocError, Global};
 use std::marker::Model;
 
-/// Through which one core asks one slice: what it asked for, its receipts, and its shares of what the slice's book
+/// A core's port of a slice: what it asked for, its receipts, and its shares of what the slice's book
 /// counts. Contracts see a `PortView`.
 #[derive(Drop)]
 pub struct Port<N: SliceNames> {
@@ -63,14 +63,14 @@ impl<N: SliceNames> Port<N> {
         self.account.accepted() as u64
     }
 
-    /// The one of this number, counted from 0, with what the port had seen of the log by then.
+    /// Returns the request of this number, counted from 0, with what the port had seen of the log by then.
     pub fn asked(&self, seq: u64) -> Option<Ask>
         ensures { result ≡ slice_get self.now.asked seq }
     {
         self.account.asked(seq)
     }
 
-    /// Those of them that were handed out, in the order in which they were.
+    /// Returns the receipts, in the order in which they were handed out.
     pub fn receipts(&self) -> &[Receipt]
         ensures receipts { result.now ≡ self.now.receipts }
         ensures fewer { length result.now ≤ length self.now.asked }
@@ -79,7 +79,7 @@ impl<N: SliceNames> Port<N> {
         self.account.receipts()
     }
 
-    /// One more than the greatest number of a receipt that it got or was told of, and 0 before the first.
+    /// Returns one more than the greatest number of a receipt that it got or learned of, and 0 before the first.
     pub fn seen(&self) -> u64
         ensures { result ≡ self.now.seen }
     {
@@ -94,7 +94,7 @@ impl<N: SliceNames> Port<N> {
         self.account.receipts().len() < self.account.accepted()
     }
 
-    /// A port through which nothing was asked for yet.
+    /// Returns a port through which nothing was requested yet.
     pub(crate) fn fresh(alloc: Global, core: CoreId, slice: SliceId, shares: Shares<N>) -> Port<N>
         requires known { core.0 < N.setup.cores }
         requires named { slice.0 ≡ N.number }

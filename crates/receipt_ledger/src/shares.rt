@@ -50,7 +50,7 @@ impl<N: SliceNames> Model for Books<N> {
 }
 
 impl<N: SliceNames> Books<N> {
-    /// The books of a slice in which nothing was asked for, and one share that has every part.
+    /// Returns the books of a slice in which nothing was requested, and one share that has every part.
     pub fn open(blanks: Blanks) -> (Books<N>, Shares<N>)
         requires { AreLedgersOf N.setup N.names blanks }
         ensures books { result.0 ≡ nothing }
@@ -105,7 +105,7 @@ impl<N: SliceNames> Books<N> {
         }
     }
 
-    /// Changes nothing, and says how what the share holds stands to the totals.
+    /// Changes nothing, and says how what the share holds relates to the totals.
     pub fn audit(&mut self, shares: &mut Shares<N>)
         ensures books { self.new ≡ self.old }
         ensures shares { shares.new ≡ shares.old }
@@ -173,7 +173,7 @@ impl<N: SliceNames> Shares<N> {
         self.counters.give_part(&mut to.counters);
     }
 
-    /// Gives so many accepted requests to another share.
+    /// Gives `requests` accepted requests to another share.
     #[tactic(auto, using(crate::proofs::Sums::plus_zeros))]
     pub fn give_accepted(&mut self, to: &mut Shares<N>, requests: u64)
         requires parts { (0 < self.old.parts) × (0 < to.old.parts) }

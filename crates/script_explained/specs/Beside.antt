@@ -1,4 +1,4 @@
--- A run whose answers are beside the commands.
+-- A run whose answers are next to the commands.
 use Rattle.std.specs.Prelude.{ℕ, Bool, true, false, List, [], Some}
 use Rattle.std.specs.Io.KnownBytes.{Appends}
 use Rattle.std.specs.Str.Lines.{lines}
@@ -6,12 +6,12 @@ use Rattle.litmus_script.specs.Script.{Plainly, Playing}
 use Rattle.script_explained.specs.Rows.{text_beside}
 use Rattle.script_explained.specs.Explains.{Explainingly}
 
--- what is told of a command: its answer, alone or with what happened
+-- what is reported of a command: its answer, alone or with what happened
 abbrev pub Told : Bool → Playing
 Told false = Plainly
 Told true = Explainingly
 
--- The command is played, and its line is written with the lines beside it that this style would write of it.
+-- The command is played, and its line is written with the lines next to it that this style would write of it.
 abbrev pub IsBeside : Playing → Playing
 IsBeside plays config old line command before after new =
     (answer : List ℕ) × plays config old line command (Some []) (Some answer) new

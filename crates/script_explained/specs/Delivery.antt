@@ -36,7 +36,7 @@ abbrev pub case_at : ℕ → View → Pick → Option Case
 case_at slice v pick =
     option_map (λ message. record { who = who_takes slice v pick; event = events.Message message }) (message_at v pick)
 
--- what was done, from the number on that the log had before
+-- what was done, where the log had `first` entries before
 abbrev pub done_at : ℕ → View → Pick → Done
 done_at first v pick =
     let core : CoreId = core_of (channel_of pick) in

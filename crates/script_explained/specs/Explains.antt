@@ -30,7 +30,7 @@ Explains config slices line (steps.Word word) before after =
 Explains config slices line (steps.Pump calls pumped) before after = Adds before after (text_of_pumped pumped)
 Explains config slices line (steps.Show command text) before after = Appends before after text.items
 
--- of each delivery of a pump stand the command that makes it, and what happened
+-- of each delivery of a pump, the command that makes it is written, and what happened
 abbrev pub ExplainsNext : WritingNext
 ExplainsNext config slices delivery before after = Appends before after (text_of_made delivery.pick delivery.told)
 

@@ -1,4 +1,4 @@
--- What is said of a reply that is handed out: the access that it answers.
+-- What is said of a reply that is handed out: the access that it is for.
 use Rattle.std.specs.Prelude.{List, ℕ, ◌++◌, codes, decimal, Option, Some, None}
 use Rattle.address_map.specs.declared.address.CoreId.{CoreId}
 use Rattle.slice_log.specs.declared.entry.Numbered.{Numbered}

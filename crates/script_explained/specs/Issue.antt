@@ -1,4 +1,4 @@
--- What is said of an access and of an eviction: the case that it met, what was decided, and the copies that stood in
+-- What is said of an access and of an eviction: the case that it met, what was decided, and the copies that were in
 -- its way.
 use Rattle.std.specs.Prelude.{ℕ, List, ◌++◌, codes, Option}
 use Rattle.address_map.specs.declared.address.CoreId.{CoreId}

@@ -19,8 +19,8 @@ use Rattle.slice_core_spec.specs.declared.decision.Decision.TheVariants as decis
 use Rattle.slice_core_exec.specs.CoreLines.{last_written_back, lines_of_core}
 use Rattle.slice_core_exec.specs.declared.core_lines.CoreLines.TheVariants as core_lines
 
--- Which copies are in the way of an access, by what is decided of it: for want of a register those that wait, for
--- want of a way those of its set, for want of room in the write-back buffer those that leave; and the victim of a miss.
+-- Which copies are in the way of an access, by what is decided of it: without a free register those that wait, without
+-- a free way those of its set, with a full write-back buffer those being written back; and the victim of a miss.
 abbrev pub named_by_stall : LineAddr → Stall → Named
 named_by_stall line stalls.NoRegister = named_kinds.Lines core_lines.Waiting
 named_by_stall line stalls.NoWay = named_kinds.Lines (core_lines.InSetOf line)

@@ -34,7 +34,7 @@ use Rattle.slice_queues.specs.declared.channel.Pick.{Pick}
 
 -- ---- a step
 
--- the command of which it is
+-- the command that it is a step of
 abbrev pub command_of : Step → Command
 command_of (steps.Issue access) = commands.Issue access.core access.decided.request
 command_of (steps.Evict eviction) = commands.Evict eviction.core eviction.line
@@ -165,7 +165,7 @@ Steps writes writes_next config old line (commands.Pump calls) before after new 
 Steps writes writes_next config old line command before after new =
     IsStepped writes config old line command before after new
 
--- The command is played in steps, which are written. As a record it isn't unfolded where it is handed on.
+-- The command is played in steps, which are written. As a record it isn't unfolded where it is passed on.
 pub record AreSteps (writes : Writing) (writes_next : WritingNext) (config : Config) (old : List PartsView)
     (line : List ℕ) (command : Command) (before after : Option (List ℕ)) (new : List PartsView) : Type 0 where
   pub steps : Steps writes writes_next config old line command before after new

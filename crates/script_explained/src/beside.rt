@@ -1,15 +1,15 @@
-//! What plays a script's commands, and writes answers beside them.
+//! Plays a script's commands, and writes answers next to them.
 use super::rows::write_beside;
 use address_map::Checked;
 use litmus_script::Player;
 use litmus_text::{Command, Statement, TextFault};
 use std::io::Write;
 
-/// A player that writes each command's line, and beside it what another player answers.
+/// A player that writes each command's line, and next to it the answer of another player.
 #[derive(Drop)]
 pub(crate) struct Beside<P: Player> {
     pub(crate) player: P,
-    /// The room for an answer, which is kept from one to the next.
+    /// The buffer for an answer, which is kept from one to the next.
     pub(crate) answer: Vec<u8>,
 }
 
@@ -41,7 +41,7 @@ impl<P: Player> Player for Beside<P> {
             .play(statement, command, &mut self.answer)
             .is_err()
         {
-            // writing to memory fails for want of it
+            // writing to memory fails when there is none left
             return Err(TextFault::NoMemory);
         }
         match write_beside(statement.line, self.answer.as_slice(), out) {

@@ -14,7 +14,7 @@ use litmus_text::TextFault;
 use std::alloc::Global;
 use std::io::Write;
 
-/// Runs a script, and writes each answer beside its command's own line; with `explain`, what happened after it.
+/// Runs a script, and writes each answer next to its command's own line; with `explain`, what happened after it.
 /// Comments, lines without words and those that configure the machine aren't written.
 pub fn run_beside<W: Write>(
     alloc: Global,
@@ -31,7 +31,7 @@ pub fn run_beside<W: Write>(
     run_in_style(alloc, input, &SideBySide { alloc, explain }, out)
 }
 
-/// Each answer beside its command, alone or with what happened.
+/// Each answer next to its command, alone or with what happened.
 #[derive(Clone, Copy)]
 struct SideBySide {
     alloc: Global,
@@ -58,7 +58,7 @@ impl Style for SideBySide {
     }
 }
 
-/// Plays commands, and tells what happened.
+/// Plays commands, and reports what happened.
 fn play_explained<W: Write>(
     alloc: Global,
     machine: Machine,

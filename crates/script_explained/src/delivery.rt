@@ -100,7 +100,7 @@ pub(crate) fn write_delivered<W: fmt::Write>(step: DeliveryStep, out: &mut W) ->
     }
 }
 
-/// The delivery of the message that met a case, if one did.
+/// Returns the delivery of the message that met a case, if one did.
 fn told(
     slice: usize,
     pick: Pick,
@@ -120,7 +120,7 @@ fn told(
     })
 }
 
-/// The case that the message in front of a channel meets.
+/// Returns the case that the message in front of a channel meets.
 fn case(state: &SliceState<EitherFile>, slice: usize, pick: Pick) -> Option<Case>
     ensures { result ≡ case_at slice state.now.view pick }
 {
@@ -131,7 +131,7 @@ fn case(state: &SliceState<EitherFile>, slice: usize, pick: Pick) -> Option<Case
     })
 }
 
-/// Who takes the messages of a channel.
+/// Returns who takes the messages of a channel.
 fn who(state: &SliceState<EitherFile>, slice: usize, pick: Pick) -> Who
     ensures { result ≡ who_takes slice state.now.view pick }
 {
@@ -149,7 +149,7 @@ fn who(state: &SliceState<EitherFile>, slice: usize, pick: Pick) -> Who
     }
 }
 
-/// The core at a channel.
+/// Returns the core at a channel.
 fn core(pick: Pick) -> CoreId
     ensures { result ≡ core_of (channel_of pick) }
 {
@@ -162,7 +162,7 @@ fn core(pick: Pick) -> CoreId
     }
 }
 
-/// What was done, where the log was so long before.
+/// Returns what was done, where the log had `first` entries before.
 fn done(state: &SliceState<EitherFile>, first: usize, pick: Pick) -> Done
     ensures { result ≡ done_at first state.now.view pick }
 {

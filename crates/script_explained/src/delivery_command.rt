@@ -14,7 +14,7 @@ use std::alloc::Global;
 use std::fmt;
 use std::io::Write;
 
-/// The command by which a script makes a delivery.
+/// Returns the command by which a script makes a delivery.
 pub fn delivery_text(alloc: Global, pick: Pick) -> Result<Vec<u8>, TextFault>
     ensures text { IfOk result (λ text. text.items ≡ text_of_parts (parts_of (commands.Deliver pick))) }
     ensures fault { IfErr result IsOfRun }

@@ -1,4 +1,4 @@
-//! What writes each answer with what happened after it.
+//! Writes each answer with what happened after it.
 ghost use Rattle.std.specs.Prelude.{◌≡◌, ◌++◌, ◌/◌, ◌%◌, IfErr, OnOk, codes};
 ghost use Rattle.std.specs.Io.KnownBytes.{Appends};
 ghost use Rattle.address_map.specs.Place.{line_of as line_of_word};

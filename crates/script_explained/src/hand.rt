@@ -7,7 +7,7 @@ use super::step::HandStep;
 use slice_text::Performed;
 use std::fmt;
 
-/// Writes the reply that was handed out, with the access that it answers.
+/// Writes the reply that was handed out, with the access that it is for.
 pub(crate) fn write_hand<W: fmt::Write>(step: HandStep, out: &mut W) -> fmt::Result
     ensures { OnOk result (WritesLine W.write_str_gives out.old
         (text_of_handed step.handed ++ codes "   " ++ told_of_hand step.core step.handed) out.new) }

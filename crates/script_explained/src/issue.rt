@@ -45,7 +45,7 @@ pub(crate) fn issue(
     })
 }
 
-/// The access, as it is decided.
+/// Returns the access, as it is decided.
 fn decided(state: &SliceState<EitherFile>, slice: usize, core: CoreId, request: Request) -> Issue
     requires { core.0 < length state.now.view.caches }
     ensures { result ≡ issue_at slice state.now.view core request }
@@ -176,7 +176,7 @@ fn write_eviction<W: fmt::Write>(
     writeln!(out)
 }
 
-/// Where the write-back buffer is full, the copies in it are named.
+/// Returns the copies in the write-back buffer, if it is full.
 const fn named(answer: Evicted) -> Named
     ensures { result ≡ named_by_answer answer }
 {

@@ -1,17 +1,17 @@
-//! Runs scripts step by step, and tells what happened after each answer.
+//! Runs scripts step by step, and reports what happened after each answer.
 //!
 //! A [`Step`] is a command that was played, as a value: what it names, what the slice had planned or decided, and what
 //! it came to (specs/Step.antt). [`make_step`] makes one on a machine; what it says is read from the slice just before the call
 //! and just after it, so a call is made as without it. A [`Stepper`] plays a script's commands as steps, each delivery
-//! of a pump as one, and hands each to a [`StepWriter`]. [`Stepwise`] is the style of that.
+//! of a pump as one, and passes each to a [`StepWriter`]. [`Stepwise`] is the style of that.
 //!
 //! [`run_explained`] writes each step as its answer with what happened after it, as `slice_text` says it
 //! (specs/Explains.antt); [`Explaining`] is that writer.
 //!
-//! [`run_beside`] writes the lines of each answer beside the command's own line (specs/Rows.antt).
+//! [`run_beside`] writes the lines of each answer next to the command's own line (specs/Rows.antt).
 //!
 //! [`delivery_text`] is the command of a delivery. [`expected`] says of a line at fault which word fits nothing, and what
-//! could be there.
+//! what could be there.
 #![tactic(auto)]
 
 pub use beside_style::run_beside;

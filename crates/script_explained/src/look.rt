@@ -1,4 +1,4 @@
-//! What is seen of a slice's lines.
+//! What can be seen of a slice's lines.
 ghost use Rattle.std.specs.Prelude.{◌≡◌};
 ghost use Rattle.script_explained.specs.Look.{copy_at, entry_of};
 
@@ -6,7 +6,7 @@ use address_map::{CoreId, LineAddr};
 use mshr_file::EitherFile;
 use slice_core::{CopyState, DirState, SliceState};
 
-/// The state of a core's copy of a line.
+/// Returns the state of a core's copy of a line.
 pub(crate) fn copy(state: &SliceState<EitherFile>, line: LineAddr, core: CoreId) -> CopyState
     ensures { result ≡ copy_at state.now.view line core }
 {
@@ -19,7 +19,7 @@ pub(crate) fn copy(state: &SliceState<EitherFile>, line: LineAddr, core: CoreId)
     }
 }
 
-/// The state of the directory's entry of a line.
+/// Returns the state of the directory's entry of a line.
 pub(crate) fn entry(state: &SliceState<EitherFile>, line: LineAddr) -> DirState
     ensures { result ≡ entry_of state.now.view line }
 {

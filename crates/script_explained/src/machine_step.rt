@@ -63,7 +63,7 @@ fn shown(alloc: Global, machine: &mut Machine, command: Command) -> Result<Vec<u
     let mut text = Vec::new(alloc);
     match machine.run(command, &mut text) {
         Ok(()) => Ok(text),
-        // writing to memory fails for want of it
+        // writing to memory fails when there is none left
         Err(_) => Err(TextFault::NoMemory),
     }
 }

@@ -1,6 +1,6 @@
-//! What a line at fault was expected to say.
+//! What a line at fault was expected to contain.
 //!
-//! This is a hint for who reads a fault, and no contract says which it is: `tests/suite/expected.py` tries it.
+//! This is a hint for the reader of a fault, and no contract specifies it: `tests/suite/expected.py` tests it.
 
 use address_map::Checked;
 use litmus_script::Script;
@@ -12,7 +12,7 @@ use std::str::from_utf8;
 /// The largest tag that can be written.
 const LAST_TAG: u64 = 255;
 
-/// What a line's numbers are judged by: the fault that the line has, and the machine, where there is one.
+/// What a line's numbers are checked against: the fault that the line has, and the machine, if there is one.
 #[derive(Drop)]
 struct Judge {
     fault: LineFault,
@@ -20,7 +20,7 @@ struct Judge {
 }
 
 impl Judge {
-    /// The largest number that can stand there, where that isn't any.
+    /// Returns the largest number that can be there, if there is one.
     fn most(&self, slot: Slot) -> Option<u64> {
         if let Slot::Tag = slot {
             return Some(LAST_TAG);
@@ -36,7 +36,7 @@ impl Judge {
         Some(many.saturating_sub(1))
     }
 
-    /// Whether a word can stand for a number, as far as this fault goes.
+    /// Whether a word can be a number there, as far as this fault goes.
     fn takes(&self, slot: Slot, word: &[u8]) -> bool {
         let number = parse_number(word);
         match (self.fault, number) {
@@ -52,7 +52,7 @@ impl Judge {
         }
     }
 
-    /// What follows the word, where it can stand there itself.
+    /// Returns what follows the word, if it can be there itself.
     fn behind(&self, slot: Slot, rest: &'static [Slot], word: &[u8]) -> Option<&'static [Slot]> {
         match slot {
             Slot::Name
@@ -66,7 +66,7 @@ impl Judge {
         }
     }
 
-    /// The first word that can't stand where it does, or the end of a line that lacks one.
+    /// Returns the first word that can't be where it is, or the end of a line that lacks one.
     fn first_misfit<'a>(&self, words: &[&'a [u8]]) -> Option<Misfit<'a>> {
         let mut slots: &'static [Slot] = &[Slot::Name];
         for word in words {
@@ -93,10 +93,10 @@ impl Judge {
     }
 }
 
-/// What was wanted where a word, or the end of the line, was found.
+/// What was expected where a word, or the end of the line, was found.
 #[derive(Clone, Copy)]
 enum Wanted {
-    /// This, up to a number where it has a last one.
+    /// This, up to a largest number if it has one.
     Slot(Slot, Option<u64>),
     End,
     /// A place before the first command.
@@ -110,7 +110,7 @@ pub struct Misfit<'a> {
     wanted: Wanted,
 }
 
-/// What the line at fault was expected to say, where the fault is a line's.
+/// Returns what the line at fault was expected to contain, if the fault is a line's.
 pub fn expected(alloc: Global, input: &[u8], fault: TextFault) -> Option<Misfit<'_>> {
     let TextFault::Line { number, fault } = fault else {
         return None;
@@ -143,7 +143,7 @@ fn expected_of<'a>(
     judge.first_misfit(words)
 }
 
-/// What can stand at a place, in words.
+/// Returns what can be at a place, in words.
 const fn text_of(slot: Slot) -> &'static str {
     match slot {
         Slot::Name => {
@@ -183,7 +183,7 @@ impl fmt::Display for Misfit<'_> {
     }
 }
 
-/// Writes a word, where all of it is printed.
+/// Writes a word, if all of it can be printed.
 fn write_word<W: fmt::Write>(word: &[u8], f: &mut fmt::Formatter<W>) -> fmt::Result {
     match from_utf8(word) {
         Ok(text) if word.iter().all(|byte| byte.is_ascii_graphic()) => write!(f, "'{text}'"),

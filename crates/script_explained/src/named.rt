@@ -16,14 +16,14 @@ use std::fmt::Write;
 #[derive(Clone, Copy)]
 pub(crate) enum Named {
     Nothing,
-    /// The copy that has just left for another line.
+    /// The copy that has just been evicted for another line.
     Victim,
     /// Those that are there.
     Lines(CoreLines),
 }
 
 impl Named {
-    /// Those that are in the way of an access to a line, or its victim.
+    /// Returns those that are in the way of an access to a line, or its victim.
     pub(crate) const fn of(line: LineAddr, decision: Decision) -> Self
         ensures { result ≡ named_by line decision }
     {
@@ -49,7 +49,7 @@ impl Named {
     }
 }
 
-/// The lines of these copies by their numbers, in ascending order.
+/// Returns the lines of these copies by their numbers, in ascending order.
 pub(crate) fn named_lines(
     alloc: Global,
     which: Named,

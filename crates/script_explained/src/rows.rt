@@ -1,4 +1,4 @@
-//! A command, and the lines of its answer beside it.
+//! A command, and the lines of its answer next to it.
 ghost use Rattle.std.specs.Prelude.{◌≡◌, [], OnOk};
 ghost use Rattle.std.specs.Io.KnownBytes.{Appends};
 ghost use Rattle.std.specs.List.{flat_map};
@@ -12,7 +12,7 @@ use std::io::Write;
 /// As wide as the column of the commands is.
 const BLANKS: &[u8; 38] = b"                                      ";
 
-/// Writes a command's line, and the lines of its answer beside it.
+/// Writes a command's line, and the lines of its answer next to it.
 pub(crate) fn write_beside<W: Write>(command: &[u8], answer: &[u8], out: &mut W) -> Result<(), Cut>
     ensures { OnOk result (Appends (W.contents out.old) (W.contents out.new)
         (text_beside command.now (lines answer.now))) }
@@ -27,7 +27,7 @@ pub(crate) fn write_beside<W: Write>(command: &[u8], answer: &[u8], out: &mut W)
     }
 }
 
-/// Writes the lines of an answer after its first, which have no command beside them.
+/// Writes the lines of an answer after its first, which have no command next to them.
 fn write_further<W: Write>(lines: Lines<'_>, out: &mut W) -> Result<(), Cut>
     ensures { OnOk result (Appends (W.contents out.old) (W.contents out.new) (flat_map (row_of []) lines.entry)) }
 {
@@ -47,7 +47,7 @@ fn write_row<W: Write>(command: &[u8], line: &[u8], out: &mut W) -> Result<(), C
     write_text(out, b"\n")
 }
 
-/// The blanks that fill up the column after a command.
+/// Returns the blanks that fill up the column after a command.
 fn blanks_behind(command: &[u8]) -> &'static [u8]
     ensures { result.now ≡ blanks_behind command.now }
 {

@@ -25,7 +25,7 @@ pub enum Step {
 impl Step {
     ghost use Rattle.script_explained.specs.Step.{command_of};
 
-    /// The command of which it is.
+    /// Returns its command.
     pub const fn command(&self) -> Command
         ensures { result ≡ command_of self.now }
     {

@@ -1,4 +1,4 @@
-//! What plays a script's commands as steps, and has each written.
+//! Plays a script's commands as steps, and has each written.
 ghost use Rattle.std.specs.Prelude.{◌≡◌, IfErr, OnOk};
 ghost use Rattle.litmus_script.specs.Play.{IsOfRun};
 ghost use Rattle.litmus_text.specs.Command.{IsInRange};

@@ -40,7 +40,7 @@ impl fmt::Display for Unrest {
     }
 }
 
-/// The step of a word that is asked for, of which this is shown.
+/// Returns the step of a word that is asked for, with `shown` as what is shown of it.
 pub(crate) fn word(
     config: &Checked,
     state: &SliceState<EitherFile>,
@@ -71,7 +71,7 @@ pub(crate) fn write_word<W: fmt::Write>(step: WordStep, out: &mut W) -> fmt::Res
     }
 }
 
-/// The first message in flight, and where there is none, the first reply that isn't handed out.
+/// Returns the first message in flight, and if there is none, the first reply that isn't handed out.
 fn first(config: &Checked, state: &SliceState<EitherFile>) -> Option<Unrest>
     requires { length state.now.view.caches ≡ config.now.cores }
     ensures { result ≡ first_unrest state.now.view }

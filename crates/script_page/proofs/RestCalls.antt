@@ -1,8 +1,7 @@
 -- What each call of a slice leaves as it was.
-use Rattle.std.proofs.Common.{◌≡◌, ℕ, ◌<◌, ◌⊎◌, Bool, true, false, if◌then◌else◌, List, length, Option, Some, None}
-use Rattle.std.proofs.Common.{Result, Ok, Err, ⊎_elim, inl, inr, refl, sym, ap, ◌∙◌, subst, arith}
-use Rattle.std.specs.Prelude.{◌&&◌, nat_lt, not}
-use Rattle.address_map.specs.Locator.{is_past, line_at, local_at}
+use Rattle.std.proofs.Common.{◌≡◌, ℕ, ◌<◌, ◌⊎◌, List, length, Option, Some, None}
+use Rattle.std.proofs.Common.{Result, Ok, ⊎_elim, inl, inr, refl, sym, ap, ◌∙◌, subst, arith}
+use Rattle.address_map.specs.Locator.{line_at, local_at}
 use Rattle.address_map.specs.Place.{line_of}
 use Rattle.address_map.specs.declared.address.CoreId.{CoreId}
 use Rattle.address_map.specs.declared.address.LineAddr.{LineAddr}
@@ -16,7 +15,6 @@ use Rattle.script_page.proofs.RestSteps.{Leaves, OpenedAt, leaves_all, leaves_di
 use Rattle.script_page.proofs.RestSteps.{leaves_hand, leaves_hit, leaves_home, leaves_join, leaves_more, leaves_open}
 use Rattle.script_page.proofs.RestSteps.{leaves_settling}
 use Rattle.script_page.specs.Scope.{taker_of}
-use Rattle.slice_answer.specs.Stats.{after_eviction}
 use Rattle.slice_answer.specs.declared.answer.Delivered.{Delivered}
 use Rattle.slice_answer.specs.declared.answer.Delivery.TheVariants as deliveries
 use Rattle.slice_answer.specs.declared.answer.Delivery.{Delivery}
@@ -25,31 +23,29 @@ use Rattle.slice_answer.specs.declared.answer.Evicted.TheVariants as evictions
 use Rattle.slice_answer.specs.declared.answer.Issue.{Issue}
 use Rattle.slice_answer.specs.declared.answer.Issue.TheVariants as issues
 use Rattle.slice_answer.specs.declared.answer.Refused.{Refused}
-use Rattle.slice_answer.specs.declared.answer.Refused.TheVariants as refusals
-use Rattle.slice_core.proofs.Victim.{leaves_victim}
-use Rattle.slice_core.specs.Facts.{LeavesVictim}
+use Rattle.slice_core.proofs.Victim.{victim_left_last}
 use Rattle.slice_core_cache.proofs.Evictions.{can_leave}
-use Rattle.slice_core_cache.specs.Access.{access_of, evicted_of}
-use Rattle.slice_core_cache.specs.CoreCache.{array_copy, tag_at}
+use Rattle.slice_core_cache.specs.Access.{evicted_of}
+use Rattle.slice_core_cache.specs.CoreCache.{array_copy}
 use Rattle.slice_core_cache.specs.Kept.{stands_in_array}
 use Rattle.slice_core_cache.specs.Steps.{victim_for}
-use Rattle.slice_core_cache.specs.Tags.{is_free}
 use Rattle.slice_core_cache.specs.declared.access.AccessKind.{AccessKind}
 use Rattle.slice_core_cache.specs.declared.access.AccessKind.TheVariants as access_kinds
 use Rattle.slice_core_cache.specs.declared.access.Ask.{Ask}
 use Rattle.slice_core_cache.specs.declared.access.Placement.{Placement}
 use Rattle.slice_core_cache.specs.declared.access.Placement.TheVariants as placements
 use Rattle.slice_core_theory.proofs.Judged.{is_judged}
-use Rattle.slice_core_theory.proofs.KeptByCalls.{located}
+use Rattle.slice_core_theory.proofs.KeptByCalls.{IsAccessTo, decided, located}
 use Rattle.slice_core_theory.proofs.Planned.{IsFor, is_for}
 use Rattle.slice_core_theory.proofs.Settling.{ack_comes, data_comes, filled-state}
 use Rattle.slice_core_theory.proofs.Victims.{has_victim_for}
 use Rattle.slice_core_theory.specs.Whole.{IsWhole}
+use Rattle.slice_core_spec.specs.Calls.{AfterDecision, AfterEvictAt, AfterEvicted}
 use Rattle.slice_core_spec.specs.Calls.{PartsView, AfterAccepting, AfterAccess, AfterDelivery, AfterEvict}
 use Rattle.slice_core_spec.specs.Calls.{AfterHand, AfterIssue, AfterPlan, IsAccepted, LacksMemory, local_in}
-use Rattle.slice_core_spec.specs.Decision.{decision_at, decision_of, is_counter, overwrites}
+use Rattle.slice_core_spec.specs.Decision.{decision_of}
 use Rattle.slice_core_spec.specs.Plan.{ack_move, directory_move, fill_move, forwarded_move, home_move, plan_of, planned_in}
-use Rattle.slice_core_spec.specs.Steps.{after_evict, after_open}
+use Rattle.slice_core_spec.specs.Steps.{after_open}
 use Rattle.slice_core_spec.specs.View.{View, cache_at, channels_at}
 use Rattle.slice_core_spec.specs.declared.decision.Decision.{Decision}
 use Rattle.slice_core_spec.specs.declared.decision.Decision.TheVariants as decisions
@@ -58,7 +54,6 @@ use Rattle.slice_core_spec.specs.declared.transition.Transition.{Transition}
 use Rattle.slice_core_exec.specs.CoreLines.{last_written_back}
 use Rattle.slice_log.specs.declared.entry.Numbered.{Numbered}
 use Rattle.slice_queues.specs.Line.{core_at}
-use Rattle.slice_queues.specs.Ring.{with_listed}
 use Rattle.slice_queues.specs.Pick.{channel_of, line_of as line_of_pick}
 use Rattle.slice_queues.specs.declared.channel.Channel.{Channel}
 use Rattle.slice_queues.specs.declared.channel.Channel.TheVariants as channels
@@ -68,51 +63,10 @@ use Rattle.mshr_file.specs.declared.registers.Register.{Register}
 
 -- ---- requests
 
-module _ (v : View) (core : CoreId) (request : Request) (local : Local) (access : AccessKind) where
-  -- An access that was decided is to a line of the slice, and is as the core's state says.
-  abbrev IsDecided : Type 0
-  IsDecided =
-      (local.0 < v.lines.lines) × (access_of (cache_at v core) local request.tag request.op ≡ access)
-      × (local_at v.lines (line_of request.word).0 ≡ Some local)
-
-  decided-line : (here : Local) → here.0 < v.lines.lines
-      → local_at v.lines (line_of request.word).0 ≡ Some here → (range busy counter : Bool)
-      → (if range then decisions.Refuse refusals.TagRange else if busy then decisions.Refuse refusals.TagBusy
-      else if counter then decisions.Refuse refusals.CounterStore
-      else decisions.Access here (access_of (cache_at v core) here request.tag request.op))
-      ≡ decisions.Access local access → IsDecided
-  decided-line here inside found true busy counter is = absurd (cc is)
-  decided-line here inside found false true counter is = absurd (cc is)
-  decided-line here inside found false false true is = absurd (cc is)
-  decided-line here inside found false false false is =
-      let same : here ≡ local = cc in
-      let judged : access_of (cache_at v core) here request.tag request.op ≡ access = cc in (
-        subst (λ (l : Local). l.0 < v.lines.lines) same inside,
-        ap (λ l. access_of (cache_at v core) l request.tag request.op) (sym same) ∙ judged,
-        found ∙ ap (λ (l : Local). Some l) same,
-      )
-
-  abbrev by_place : Option Local → Decision
-  by_place None = decisions.Refuse refusals.WrongSlice
-  by_place (Some here) = decision_at v core request here
-
-  decided-place : (past : Bool) (place : Option Local) → local_at v.lines (line_of request.word).0 ≡ place
-      → (if past then decisions.Refuse refusals.OutOfRange else by_place place) ≡ decisions.Access local access
-      → IsDecided
-  decided-place true place found is = absurd (cc is)
-  decided-place false None found is = absurd (cc is)
-  decided-place false (Some here) found is =
-      decided-line here (located v.lines (line_of request.word).0 here found) found (not (nat_lt request.tag 64))
-      (not (is_free (tag_at (cache_at v core) request.tag))) (overwrites request.op && is_counter v request.word) is
-
-  decided : decision_of v core request ≡ decisions.Access local access → IsDecided
-  decided is =
-      decided-place (is_past v.lines request.word) (local_at v.lines (line_of request.word).0) refl is
-
 module _ (old : PartsView) (core : CoreId) (request : Request) (answer : Result Issue Refused) (new : PartsView)
     (whole : IsWhole old.view) (known : core.0 < length old.view.caches)
     (made : AfterIssue old core request answer new) where
-  -- the places of the line that was asked for, and of the one that left last
+  -- the places of the line that was asked for, and of the one that was evicted last
   abbrev IssuedAt : ℕ → Type 0
   IssuedAt n =
       (local_at old.view.lines (line_of request.word).0 ≡ Some (record { 0 = n }))
@@ -131,18 +85,6 @@ module _ (old : PartsView) (core : CoreId) (request : Request) (answer : Result 
       (leaves_more (λ n. n ≡ local.0) IssuedAt (Some core) old.view view
       (λ n here. inl (found ∙ ap (λ m. Some (record { 0 = m })) (sym here))) one)
 
-  -- the victim is what left last
-  is_last : (local : Local) (next : CopyState) (ask : Ask) (seq : ℕ)
-      → decision_of old.view core request
-      ≡ decisions.Access local (access_kinds.PrimaryMiss next ask placements.Victim)
-      → answer ≡ Ok (issues.Pending seq)
-      → last_written_back new.view core ≡ Some (line_at old.view.lines (victim_for (cache_at old.view core) local))
-  is_last local next ask seq is says =
-      subst (λ (a : Result Issue Refused). LeavesVictim
-      (decisions.Access local (access_kinds.PrimaryMiss next ask placements.Victim)) old.view core a new.view) says
-      (subst (λ (d : Decision). LeavesVictim d old.view core answer new.view) is
-      (leaves_victim old core request answer new known made))
-
   opened : (local : Local) (next : CopyState) (ask : Ask) (placement : Placement) (misses : List Register) (seq : ℕ)
       → decision_of old.view core request ≡ decisions.Access local (access_kinds.PrimaryMiss next ask placement)
       → (found : local_at old.view.lines (line_of request.word).0 ≡ Some local) → answer ≡ Ok (issues.Pending seq)
@@ -157,11 +99,11 @@ module _ (old : PartsView) (core : CoreId) (request : Request) (answer : Result 
       subst (Leaves IssuedAt (Some core) old.view) (sym after)
       (leaves_more (λ n. (n ≡ local.0) ⊎ (n ≡ victim.0)) IssuedAt (Some core) old.view _
       (λ n. ⊎_elim (λ here. inl (found ∙ ap (λ m. Some (record { 0 = m })) (sym here)))
-      (λ gone. inr (is_last local next ask seq is says
+      (λ gone. inr (victim_left_last old core request answer new known local next ask seq is says made
       ∙ ap (λ m. Some (line_at old.view.lines (record { 0 = m }))) (sym gone)))) one)
 
   accepted : (local : Local) (access : AccessKind) → decision_of old.view core request ≡ decisions.Access local access
-      → IsDecided old.view core request local access → (room : ℕ) (issue : Issue) → answer ≡ Ok issue
+      → IsAccessTo old.view core request local access → (room : ℕ) (issue : Issue) → answer ≡ Ok issue
       → AfterAccepting access (record old { room = room }) core request local issue new → KeepsIssued
   accepted local (access_kinds.Stall stall) at is room issue says after =
       same_view (ap (λ (p : PartsView). p.view) after.1)
@@ -186,14 +128,14 @@ module _ (old : PartsView) (core : CoreId) (request : Request) (answer : Result 
 
   with_memory : (local : Local) (access : AccessKind)
       → decision_of old.view core request ≡ decisions.Access local access
-      → IsDecided old.view core request local access
+      → IsAccessTo old.view core request local access
       → LacksMemory old answer new ⊎ IsAccepted access old core request local answer new → KeepsIssued
   with_memory local access at is after =
       ⊎_elim (λ lacks. same_view (ap (λ (p : PartsView). p.view) lacks.unchanged))
       (λ done. accepted local access at is done.0 done.1 done.4 done.5) after
 
   accessed : (local : Local) (access : AccessKind) → decision_of old.view core request ≡ decisions.Access local access
-      → IsDecided old.view core request local access → AfterAccess access old core request local answer new
+      → IsAccessTo old.view core request local access → AfterAccess access old core request local answer new
       → KeepsIssued
   accessed local (access_kinds.Stall stall) at is after = same_view (ap (λ (p : PartsView). p.view) after.1)
   accessed local (access_kinds.Hit way next silent) at is after =
@@ -202,12 +144,8 @@ module _ (old : PartsView) (core : CoreId) (request : Request) (answer : Result 
   accessed local (access_kinds.PrimaryMiss next ask placement) at is after =
       with_memory local (access_kinds.PrimaryMiss next ask placement) at is after
 
-  -- what an issue answers and leaves, by what was decided
-  abbrev by_decision : Decision → Type 0
-  by_decision (decisions.Refuse refused) = (answer ≡ Err refused) × (new ≡ old)
-  by_decision (decisions.Access local access) = AfterAccess access old core request local answer new
-
-  issued : (decision : Decision) → decision_of old.view core request ≡ decision → by_decision decision → KeepsIssued
+  issued : (decision : Decision) → decision_of old.view core request ≡ decision
+      → AfterDecision decision old core request answer new → KeepsIssued
   issued (decisions.Refuse refused) is after = same_view (ap (λ (p : PartsView). p.view) after.1)
   issued (decisions.Access local access) is after =
       accessed local access is (decided old.view core request local access is) after
@@ -225,24 +163,8 @@ module _ (old : PartsView) (core : CoreId) (line : LineAddr) (answer : Evicted) 
   stays : new ≡ old → Leaves LineAt (Some core) old.view new.view
   stays same = leaves_all LineAt (Some core) old.view new.view (ap (λ (p : PartsView). p.view) same)
 
-  -- what is left of the slice, by the answer
-  abbrev by_answer : Local → Evicted → Type 0
-  by_answer local evictions.Evicting =
-      new
-      ≡ record old {
-        view = after_evict old.view core local;
-        stats = after_eviction old.stats core;
-        ring = with_listed old.ring local.0;
-      }
-  by_answer local _ = new ≡ old
-
-  -- what an eviction answers and leaves, by the line's place
-  abbrev by_line : Option Local → Type 0
-  by_line None = (answer ≡ evictions.NotHeld) × (new ≡ old)
-  by_line (Some local) = (answer ≡ evicted_of (cache_at old.view core) local) × by_answer local answer
-
   answered : (local : Local) (given : Evicted) → local_at old.view.lines line.0 ≡ Some local
-      → given ≡ evicted_of (cache_at old.view core) local → by_answer local given
+      → given ≡ evicted_of (cache_at old.view core) local → AfterEvicted given old core local new
       → Leaves LineAt (Some core) old.view new.view
   answered local evictions.Evicting found is after =
       let leaves = can_leave (cache_at old.view core) local (sym is) in
@@ -254,7 +176,7 @@ module _ (old : PartsView) (core : CoreId) (line : LineAddr) (answer : Evicted) 
   answered local evictions.NotHeld found is after = stays after
   answered local evictions.WriteBackFull found is after = stays after
 
-  placed : (place : Option Local) → local_at old.view.lines line.0 ≡ place → by_line place
+  placed : (place : Option Local) → local_at old.view.lines line.0 ≡ place → AfterEvictAt place old core answer new
       → Leaves LineAt (Some core) old.view new.view
   placed None found after = stays after.1
   placed (Some local) found after = answered local answer found after.0 after.1
@@ -386,7 +308,7 @@ module _ (old : PartsView) (pick : Pick) (answer : Delivered) (new : PartsView) 
   abbrev PickAt : ℕ → Type 0
   PickAt n = local_at old.view.lines (line_of_pick pick).0 ≡ Some (record { 0 = n })
 
-  -- what a delivery answers and leaves, by the line's place
+  -- what a delivery returns and leaves, by the line's place
   abbrev by_pick : Option Local → Type 0
   by_pick place =
       AfterPlan (planned_in old.view place (channel_of pick)) old (local_in place) (channel_of pick) answer new

@@ -166,7 +166,7 @@ leaves_hand At v core tag known =
       cores = other_core v core after known;
     }
 
--- ---- a line that leaves for another
+-- ---- a line that is evicted for another
 
 module _ (v : View) (core : CoreId) (local : Local) (shaped : IsShaped v) (most : length v.caches ≤ 64)
     (known : core.0 < length v.caches) (inside : local.0 < v.lines.lines) (kept : IsKept (cache_at v core)) where

@@ -19,7 +19,7 @@ use Rattle.slice_core_exec.specs.declared.core_lines.CoreLines.TheVariants as co
 abbrev pub lacks : View → CoreId → Bool
 lacks v core = nat_le (length v.caches) core.0
 
--- the line that left last for another, where an access of this core can have made one leave
+-- the line that was last evicted for another, if an access of this core can have evicted one
 abbrev pub victim_by : View → Bool → Option CoreId → Option LineAddr
 victim_by v evicts None = None
 victim_by v evicts (Some core) = if not evicts || lacks v core then None else last_written_back v core
@@ -50,8 +50,8 @@ list_of_replies v core = with_commas (replies_of v core (range_with_len 0 64))
 abbrev pub text_of_begin : CoreId → List ℕ
 text_of_begin core = codes "{\"core\":" ++ decimal core.0 ++ codes ",\"copy\":"
 
--- A core with its copies of a line and of another that left for it, the lines that it waits for in the order of their
--- registers, those that leave, those of one set in the policy's order, and the replies that aren't handed out.
+-- A core with its copies of a line and of one evicted for it, the lines that it waits for in the order of their
+-- registers, those being written back, those of one set in the policy's order, and the replies that aren't handed out.
 abbrev pub text_with : View → CoreId → Option LineAddr → Option LineAddr → List LineAddr → List LineAddr
     → List LineAddr → List ℕ
 text_with v core line victim registers leaving set =

@@ -69,7 +69,7 @@ pub record IsPageOf (guess : Bool) (script : List ℕ) (config : Config) (bound 
   pub begun : Appends before first (text_of_begin script)
   pub steps : HasSteps guess config commands start first after
 
--- A script's page. That of a script that says nothing has no steps.
+-- A script's page. The page of an empty script has no steps.
 abbrev pub IsPage : Bool → List ℕ → List (ℕ × List (List ℕ)) → Option (List ℕ) → Option (List ℕ) → Type 0
 IsPage guess script all before after =
     ((all ≡ []) × (first : Option (List ℕ)) × Appends before first (text_of_begin script)

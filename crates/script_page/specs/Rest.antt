@@ -1,4 +1,4 @@
--- What a call of a slice leaves as it was: all but one line, what one core has of it, and where one leaves for it a
+-- What a call of a slice leaves as it was: all but one line, what one core has of it, and if one is evicted for it a
 -- second line.
 use Rattle.std.specs.Prelude.{◌≡◌, ◌≢◌, ◌⊎◌, ℕ, List, length, Option, Some, None}
 use Rattle.std.specs.List.{slice_get}

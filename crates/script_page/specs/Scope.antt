@@ -20,7 +20,7 @@ taker_of (picks.Data line core) = Some core
 taker_of (picks.Ack line to from) = Some to
 taker_of (picks.Home line) = None
 
--- a line goes to the slice that its number says
+-- a line belongs to the slice that its number gives
 abbrev pub of_line : Config → LineAddr → Option CoreId → Bool → Option Scope
 of_line config line core evicts =
     Some (record { slice = line.0 % config.slices; line = Some line; core = core; evicts = evicts })
@@ -30,7 +30,7 @@ abbrev pub scope_of_look : Config → Option LineAddr → Option Scope
 scope_of_look config None = None
 scope_of_look config (Some line) = of_line config line None false
 
--- what a command can change; an access can make another line leave. A pump's deliveries have scopes of their own.
+-- what a command can change; an access can evict another line. A pump's deliveries have scopes of their own.
 abbrev pub scope_of : Config → Command → Option Scope
 scope_of config (commands.Issue core request) = of_line config (line_of_word request.word) (Some core) true
 scope_of config (commands.Evict core line) = of_line config line (Some core) false

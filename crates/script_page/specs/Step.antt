@@ -27,7 +27,7 @@ use Rattle.slice_text.specs.declared.step.delivery.ExplainedDelivery.{ExplainedD
 
 -- ---- what a step says
 
--- the number of the first access that a step performed, where the log is so long after it: the length where it
+-- the number of the first access that a step performed, where the log has `length` entries after it: `length` if it
 -- performed none
 abbrev pub first_of_issued : Issued → ℕ → ℕ
 first_of_issued (issued_kinds.Done number reply) length = number

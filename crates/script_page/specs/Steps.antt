@@ -13,7 +13,7 @@ use Rattle.script_page.specs.Step.{WritesStep}
 use Rattle.litmus_text.specs.Line.{text_of_parts}
 use Rattle.slice_core_spec.specs.Calls.{PartsView}
 
--- The step of a command is written: its answer told with what happened, and the slices as they are then. Its place in
+-- The step of a command is written: its answer with what happened, and the slices as they are then. Its place in
 -- the script isn't said here.
 pub record PagesStep (config : Config) (slices : List PartsView) (line : List ℕ) (step : Step)
     (before after : Option (List ℕ)) : Type 0 where
@@ -22,7 +22,7 @@ pub record PagesStep (config : Config) (slices : List PartsView) (line : List �
   pub told : Explains config slices line step (Some []) (Some answer)
   pub written : WritesStep config number line answer step slices before after
 
--- a delivery of a pump is a step of its own, as if the command that makes it stood there
+-- a delivery of a pump is a step of its own, as if the command that makes it were there
 pub record PagesNext (config : Config) (slices : List PartsView) (delivery : DeliveryStep)
     (before after : Option (List ℕ)) : Type 0 where
   pub number : ℕ

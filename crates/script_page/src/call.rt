@@ -194,7 +194,7 @@ impl fmt::Display for Forwards {
     }
 }
 
-/// The core at a channel.
+/// Returns the core at a channel.
 const fn core_of(pick: Pick) -> CoreId
     ensures { result ≡ core_of (channel_of pick) }
 {

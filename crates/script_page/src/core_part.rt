@@ -20,7 +20,7 @@ use std::io::Write;
 /// How many tags a core has.
 const TAGS: u8 = 64;
 
-/// The line that left last for another, where an access can have made one leave.
+/// Returns the line that was last evicted for another, if an access can have evicted one.
 pub(crate) fn victim_of(state: &SliceState<EitherFile>, scope: Scope) -> Option<LineAddr>
     ensures { result ≡ victim_of state.now.view scope }
 {
@@ -51,7 +51,7 @@ pub(crate) fn write_core_in<W: Write>(
     write_core(alloc, state, core, scope, out)
 }
 
-/// Writes that there is nothing.
+/// Writes `null`.
 pub(crate) fn write_null<W: Write>(out: &mut W) -> Result<(), TextFault>
     ensures written { OnOk result (Appends (W.contents out.old) (W.contents out.new) (codes "null")) }
     ensures fault { IfErr result IsOfRun }
@@ -60,7 +60,7 @@ pub(crate) fn write_null<W: Write>(out: &mut W) -> Result<(), TextFault>
     written(write_whole("null", &mut answers))
 }
 
-/// Writes a text that is always the same.
+/// Writes a fixed text.
 pub(crate) fn write_whole<W: fmt::Write>(text: &str, out: &mut W) -> fmt::Result
     ensures { OnOk result (WritesInCalls W.write_str_gives out.old text.now out.new) }
 {
@@ -92,7 +92,7 @@ fn write_core<W: Write>(
     written(write_with(state, core, scope.line, victim, &lists, &mut answers))
 }
 
-/// The lines in the set of a line, in the order that the policy keeps.
+/// Returns the lines in the set of a line, in the order that the policy keeps.
 fn set_lines(
     alloc: Global,
     state: &SliceState<EitherFile>,
@@ -108,7 +108,7 @@ fn set_lines(
     }
 }
 
-/// The lines of a core that are waited for, those that leave, and those of one set.
+/// The lines of a core that are waited for, those being written back, and those of one set.
 #[derive(Clone, Copy)]
 struct Lists<'a> {
     registers: &'a [LineAddr],

@@ -5,7 +5,7 @@
 //! has it then (specs/Step.antt), as `slice_json` writes it: a line with its messages, what a core has of it and besides
 //! ([`core_part`]), and what was performed. The steps are one value of JSON in a page whose own code
 //! (`src/frame`) shows them: `head` its look and parts, `run` reads the value, `time` finds what happened when, `diagram`
-//! draws it (`place`, `labels`, `lanes`, `arrows`, `marks`), `legend` says what its signs are, `focus` tells one step,
+//! draws it (`place`, `labels`, `lanes`, `arrows`, `marks`), `legend` explains its signs, `focus` describes one step,
 //! and `controls` moves through the steps and prints them; `guess` is there where answers are to be guessed: it shows
 //! each only once it was.
 //!

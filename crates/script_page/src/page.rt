@@ -40,7 +40,7 @@ use std::fmt;
 use std::io::Write;
 
 /// Writes a script's run as a page for a browser: a step for each command. With `guess` the page asks for each answer
-/// before it shows it. Returns the exit status. A line that can't be taken ends the steps, and the page tells it too.
+/// before it shows it. Returns the exit status. A line that can't be taken ends the steps, and the page reports it too.
 pub fn run_page<W: Write>(
     alloc: Global,
     input: &[u8],
@@ -112,7 +112,7 @@ fn steps<W: Write>(
     match play_steps(alloc, machine, PageWriter { alloc }, commands, out) {
         Ok(()) => end(guess, out),
         Err(fault) => {
-            // where this can't be written either, there is nobody left to tell
+            // if this can't be written either, there is no way left to report it
             let _ = end_at(&fault, guess, &mut TextWriter { out });
             Err(fault)
         }
@@ -151,7 +151,7 @@ fn write_begin<W: fmt::Write>(
     out.write_str(",\"steps\":[\n")
 }
 
-/// The table of a cache.
+/// Returns the table of a cache.
 fn cache_table(alloc: Global) -> Result<Vec<u8>, TextFault>
     ensures table { IfOk result (λ table. table.items ≡ cache_table true) }
     ensures fault { IfErr result IsOfRun }
@@ -170,7 +170,7 @@ fn print_cache_table<W: Write>(out: &mut W) -> fmt::Result
     write_cache_table(true, &mut answers)
 }
 
-/// The table of a directory.
+/// Returns the table of a directory.
 fn directory_table(alloc: Global) -> Result<Vec<u8>, TextFault>
     ensures table { IfOk result (λ table. table.items ≡ directory_table true) }
     ensures fault { IfErr result IsOfRun }
@@ -231,7 +231,7 @@ fn write_diagram<W: fmt::Write>(out: &mut W) -> fmt::Result
     out.write_str(LEGEND)
 }
 
-/// Writes code that a page has only where it is asked for.
+/// Writes code that a page has only if it is asked for.
 fn write_if<W: fmt::Write>(is_wanted: bool, code: &str, out: &mut W) -> fmt::Result
     ensures { OnOk result (WritesInCalls W.write_str_gives out.old (code_if is_wanted code.now) out.new) }
 {

@@ -6,7 +6,7 @@ use address_map::{Checked, CoreId, LineAddr};
 use litmus_text::Command;
 use slice_core::Pick;
 
-/// What a command can change: in a slice a line, and what a core has there. An access can make another line leave.
+/// What a command can change: in a slice a line, and what a core has there. An access can evict another line.
 #[derive(Clone, Copy)]
 pub(crate) struct Scope {
     pub(crate) slice: usize,
@@ -15,7 +15,7 @@ pub(crate) struct Scope {
     pub(crate) evicts: bool,
 }
 
-/// What a command can change: none for one that shows what several lines or slices have, nor for a pump, whose
+/// Returns what a command can change: none for one that shows what several lines or slices have, nor for a pump, whose
 /// deliveries have scopes of their own.
 pub(crate) fn scope_of(config: &Checked, command: Command) -> Option<Scope>
     ensures { result ≡ scope_of config.now command }
@@ -40,7 +40,7 @@ pub(crate) fn scope_of(config: &Checked, command: Command) -> Option<Scope>
     }
 }
 
-/// .. of one that is about a line, which goes to the slice that its number says.
+/// .. of one that is about a line, which belongs to the slice that its number gives.
 fn of_line(config: &Checked, line: LineAddr, core: Option<CoreId>, evicts: bool) -> Scope
     ensures { result ≡ record {
       slice = line.0 % config.now.slices;
@@ -57,7 +57,7 @@ fn of_line(config: &Checked, line: LineAddr, core: Option<CoreId>, evicts: bool)
     }
 }
 
-/// The core that takes the messages of a channel: none where the directory does.
+/// Returns the core that takes the messages of a channel: none where the directory does.
 const fn taker_of(pick: Pick) -> Option<CoreId>
     ensures { result ≡ taker_of pick }
 {

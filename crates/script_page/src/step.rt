@@ -22,7 +22,7 @@ use std::alloc::Global;
 use std::fmt;
 use std::io::Write;
 
-/// A step as a page tells it: its place in the script, the text of its command, and its answer with what happened.
+/// A step as a page shows it: its place in the script, the text of its command, and its answer with what happened.
 #[derive(Clone, Copy)]
 pub(crate) struct PageStep<'a> {
     pub(crate) number: usize,
@@ -51,7 +51,7 @@ pub(crate) fn write_step<W: Write>(
     end(out)
 }
 
-/// What the core has whose copy the command can have changed.
+/// Returns what the core has whose copy the command can have changed.
 fn core_text(alloc: Global, machine: &Machine, scope: Option<Scope>) -> Result<Vec<u8>, TextFault>
     ensures text { IfOk result (λ text. text.items ≡ text_of_core_by scope machine.now.slices.items) }
     ensures fault { IfErr result IsOfRun }
@@ -59,7 +59,7 @@ fn core_text(alloc: Global, machine: &Machine, scope: Option<Scope>) -> Result<V
     let mut text = Vec::new(alloc);
     match tell_core(alloc, machine, scope, &mut text) {
         Ok(()) => Ok(text),
-        // writing to memory fails for want of it
+        // writing to memory fails when there is none left
         Err(_) => Err(TextFault::NoMemory),
     }
 }
@@ -108,7 +108,7 @@ fn write_front<W: fmt::Write>(
     write_changes(machine, scope, told.step, out)
 }
 
-/// What was planned for the message that a step delivers.
+/// Returns what was planned for the message that a step delivers.
 fn planned_of(step: &Step) -> Option<Planned>
     ensures { result ≡ planned_of step.now }
 {
@@ -130,7 +130,7 @@ const fn plan_of(told: Option<ExplainedDelivery>) -> Plan
     }
 }
 
-/// The number of the first access that a step performed; the log's length where it performed none.
+/// Returns the number of the first access that a step performed; the log's length if it performed none.
 fn first_of(step: &Step, length: usize) -> usize
     ensures { result ≡ first_of step.now length }
 {

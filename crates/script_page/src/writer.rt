@@ -1,4 +1,4 @@
-//! What writes the steps of a page.
+//! Writes the steps of a page.
 ghost use Rattle.std.specs.Prelude.{◌≡◌, [], IfErr, IfOk, Some};
 ghost use Rattle.litmus_script.specs.Play.{IsOfRun};
 ghost use Rattle.litmus_text.specs.Command.{IsInRange, parts_of};
@@ -65,7 +65,7 @@ impl StepWriter for PageWriter {
 }
 
 impl PageWriter {
-    /// The answer of a step, with what happened.
+    /// Returns the answer of a step, with what happened.
     fn told(
         &self,
         machine: &Machine,
@@ -81,12 +81,12 @@ impl PageWriter {
         let explaining = Explaining { alloc: self.alloc };
         match explaining.write(machine, statement, step, &mut answer) {
             Ok(()) => Ok(answer),
-            // writing to memory fails for want of it
+            // writing to memory fails when there is none left
             Err(_) => Err(TextFault::NoMemory),
         }
     }
 
-    /// The command that makes a delivery.
+    /// Returns the command that makes a delivery.
     fn line_of(&self, delivery: &DeliveryStep) -> Result<Vec<u8>, TextFault>
         ensures text { IfOk result (λ text. text.items ≡ text_of_parts (parts_of (commands.Deliver delivery.now.pick))) }
         ensures fault { IfErr result IsOfRun }

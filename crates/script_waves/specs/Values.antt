@@ -99,7 +99,7 @@ text_of_lines config slices lines = flat_map (λ line. text_in (slice_get slices
 
 -- ---- a command
 
--- a byte of a word: what is no printed ASCII shows as a line below
+-- a byte of a word: one that isn't printable ASCII is written as `_`
 abbrev pub byte_shown : ℕ → ℕ
 byte_shown byte = if nat_le 33 byte && nat_lt byte 127 then byte else 95
 

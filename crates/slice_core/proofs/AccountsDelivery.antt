@@ -52,7 +52,7 @@ same-if : (b : Bool) (old one other : CoreCacheView) → HasSame old one → Has
 same-if true old one other first second = first
 same-if false old one other first second = second
 
--- Its requests are as they were, wherever it stands.
+-- Its requests are as they were, wherever it is.
 same-advance : (cache : CoreCacheView) (local : Local) (next : CopyState) →
     HasSame cache (caches.after_advance cache local next)
 same-advance cache local next =
@@ -192,7 +192,7 @@ module _ (old : PartsView) (sound : IsSound old) (new : PartsView) where
   keeps-same : new ≡ old → Keeps new
   keeps-same same = subst Keeps (sym same) (keeps-from_sound old sound)
 
-  -- what a delivery answers and leaves, by the line's place
+  -- what a delivery returns and leaves, by the line's place
   abbrev by_line : Pick → Delivered → Option Local → Type 0
   by_line pick answer place =
       AfterPlan (planned_in old.view place (channel_of pick)) old (local_in place) (channel_of pick) answer new

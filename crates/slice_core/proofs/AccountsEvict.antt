@@ -1,41 +1,22 @@
 -- Counts and accounts after an eviction.
-use Rattle.std.proofs.Common.{◌≡◌, ◌<◌, length, Option, Some, None, refl, sym, subst}
+use Rattle.std.proofs.Common.{◌<◌, length, Option, Some, None, refl, sym, subst}
 use Rattle.address_map.specs.Locator.{local_at}
 use Rattle.address_map.specs.declared.address.CoreId.{CoreId}
 use Rattle.address_map.specs.declared.address.LineAddr.{LineAddr}
 use Rattle.address_map.specs.declared.address.Local.{Local}
-use Rattle.slice_answer.specs.Stats.{after_eviction}
 use Rattle.slice_answer.specs.declared.answer.Evicted.{Evicted}
 use Rattle.slice_answer.specs.declared.answer.Evicted.TheVariants as evictions
-use Rattle.slice_core_spec.specs.Calls.{PartsView, AfterEvict}
+use Rattle.slice_core_spec.specs.Calls.{PartsView, AfterEvict, AfterEvictAt, AfterEvicted}
 use Rattle.slice_core_spec.specs.Steps.{after_evict}
 use Rattle.slice_core_spec.specs.View.{cache_at}
-use Rattle.slice_core_cache.specs.Access.{evicted_of}
 use Rattle.slice_core_cache.specs.CoreCache.{array_copy}
 use Rattle.slice_core_cache.specs.Steps as caches
 use Rattle.slice_core.proofs.AccountsIssue.{keeps-leaving}
 use Rattle.slice_core.proofs.AccountsKept.{Keeps, keeps-ring}
-use Rattle.slice_queues.specs.Ring.{with_listed}
 
 module _ (old : PartsView) (core : CoreId) (line : LineAddr) (answer : Evicted) (new : PartsView)
     (keeps : Keeps old) (known : core.0 < length old.view.caches) where
-  -- what is left of the slice, by the answer
-  abbrev by_answer : Local → Evicted → Type 0
-  by_answer local evictions.Evicting =
-      new
-      ≡ record old {
-        view = after_evict old.view core local;
-        stats = after_eviction old.stats core;
-        ring = with_listed old.ring local.0;
-      }
-  by_answer local _ = new ≡ old
-
-  -- what an eviction answers and leaves, by the line's place
-  abbrev by_line : Option Local → Type 0
-  by_line None = (answer ≡ evictions.NotHeld) × (new ≡ old)
-  by_line (Some local) = (answer ≡ evicted_of (cache_at old.view core) local) × by_answer local answer
-
-  answered : (local : Local) (given : Evicted) → by_answer local given → Keeps new
+  answered : (local : Local) (given : Evicted) → AfterEvicted given old core local new → Keeps new
   answered local evictions.Evicting after =
       let cache = cache_at old.view core in
       subst Keeps (sym after)
@@ -46,7 +27,7 @@ module _ (old : PartsView) (core : CoreId) (line : LineAddr) (answer : Evicted) 
   answered local evictions.NotHeld after = subst Keeps (sym after) keeps
   answered local evictions.WriteBackFull after = subst Keeps (sym after) keeps
 
-  placed : (place : Option Local) → by_line place → Keeps new
+  placed : (place : Option Local) → AfterEvictAt place old core answer new → Keeps new
   placed None after = subst Keeps (sym after.1) keeps
   placed (Some local) after = answered local answer after.1
 

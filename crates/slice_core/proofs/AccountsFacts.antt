@@ -24,7 +24,7 @@ cache-missing v core past = get_or_past v.caches core.0 no_cache past
 abbrev one_if : Bool → ℕ
 one_if b = if b then 1 else 0
 
--- No request of a core that isn't there stands anywhere.
+-- No request of a core that isn't there is anywhere.
 pub standing-from_accounts : (v : View) → HasAccounts v → IsStanding v
 standing-from_accounts v has = record {
   once = λ core seq.

@@ -1,6 +1,6 @@
 -- Counts and accounts after an issue.
 use Rattle.std.proofs.Common.{◌≡◌, ℕ, ◌+◌, ◌%◌, ◌^◌, ◌<◌, ◌≤◌, Bool, List, length, refl, sym, ap, subst, ⊎_elim, arith}
-use Rattle.std.specs.Prelude.{◌⊎◌, slice_set, Result, Err}
+use Rattle.std.specs.Prelude.{◌⊎◌, slice_set, Result}
 use Rattle.std.proofs.lemmas.List.{length-set}
 use Rattle.address_map.specs.Place.{offset_of}
 use Rattle.address_map.specs.declared.address.CoreId.{CoreId}
@@ -13,6 +13,7 @@ use Rattle.slice_answer.specs.Stats.{after_eviction, after_hit as hit_counted, a
 use Rattle.slice_answer.specs.declared.answer.Issue.{Issue}
 use Rattle.slice_answer.specs.declared.answer.Refused.{Refused}
 use Rattle.slice_core_spec.specs.Decision.{decision_of}
+use Rattle.slice_core_spec.specs.Calls.{AfterDecision}
 use Rattle.slice_core_spec.specs.Calls.{PartsView, opened_stats, target_for, AfterAccepting, AfterAccess, AfterIssue}
 use Rattle.slice_core_spec.specs.Calls.{IsAccepted, LacksMemory}
 use Rattle.slice_core_spec.specs.Steps.{after_hit, after_join, after_open, after_opening, after_request, is_held}
@@ -241,12 +242,8 @@ module _ (old : PartsView) (core : CoreId) (request : Request) (answer : Result 
   accessed local (access_kinds.PrimaryMiss next ask placement) judged after =
       with_memory local (access_kinds.PrimaryMiss next ask placement) judged after
 
-  -- what an issue answers and leaves, by what was decided
-  abbrev by_decision : Decision → Type 0
-  by_decision (decisions.Refuse refused) = (answer ≡ Err refused) × (new ≡ old)
-  by_decision (decisions.Access local access) = AfterAccess access old core request local answer new
-
-  decided : (decision : Decision) → decision_of old.view core request ≡ decision → by_decision decision → Keeps new
+  decided : (decision : Decision) → decision_of old.view core request ≡ decision
+      → AfterDecision decision old core request answer new → Keeps new
   decided (decisions.Refuse refused) is after = unchanged after.1
   decided (decisions.Access local access) is after =
       accessed local access (judged old.view core request local access is) after

@@ -19,7 +19,7 @@ use Rattle.slice_core.specs.Sound.{HasAccounts}
 abbrev pub HasAccount : Lines → List Entry → ℕ → CoreCacheView → Type 0
 HasAccount lines log core cache = IsAccount lines log core cache.misses cache.tags cache.accepted
 
--- All that was performed since is the core's own: the accounts of the others stand.
+-- All that was performed since is the core's own: the accounts of the others are unchanged.
 pub record IsOwn (lines : Lines) (core : ℕ) (old new : List Entry) : Type 0 where
   pub accounts : (other : ℕ) (cache : CoreCacheView) → other ≢ core → HasAccount lines old other cache
       → HasAccount lines new other cache

@@ -59,7 +59,7 @@ pub bounded : (p : PartsView) → IsSound p → HasBoundedChannels p.view
 bounded p sound =
     bounds.bounded p.view (whole p sound) sound.counted.some_core (reached_without p.view sound.faithful.reached)
 
--- It is a slice of which the theorems speak.
+-- It is a slice to which the theorems apply.
 is_reached : (p : PartsView) → IsSound p → IsReached p.view
 unfolding IsReached
 is_reached p sound = record {
@@ -115,7 +115,7 @@ planned (deliveries.Broken cell) old local channel answer new fine after = absur
 planned (deliveries.Moved step) old local channel answer new fine after = rw after.0 tt
 
 module _ (old : PartsView) (sound : IsSound old) (new : PartsView) where
-  -- what a delivery answers and leaves, by the line's place
+  -- what a delivery returns and leaves, by the line's place
   abbrev by_line : Pick → Delivered → Option Local → Type 0
   by_line pick answer place =
       AfterPlan (planned_in old.view place (channel_of pick)) old (local_in place) (channel_of pick) answer new

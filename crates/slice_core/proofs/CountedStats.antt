@@ -35,7 +35,7 @@ accepted-within p core c has known =
     let bound = c.bounded in
     omega (arith, all, wait, logged, fits, bound)
 
--- What was counted of a core is as many as it accepted, the others' counts being as they were.
+-- The count of a core is the number that it accepted, the others' counts being as they were.
 counts-with : (p : PartsView) (core : CoreId) (counts : CoreStats) (accepted : ℕ) → core.0 < length p.stats.cores
     → accepted_of counts ≡ accepted → Counts p core accepted (with_counts p.stats core counts)
 counts-with p core counts accepted known are = record {

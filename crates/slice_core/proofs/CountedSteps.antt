@@ -41,14 +41,14 @@ after_step p core cache log stats pending room = record p {
   room = room;
 }
 
--- What was counted of a core is as many as it had accepted; of the others nothing new was counted.
+-- The count of a core is the number that it had accepted; for the others nothing new was counted.
 pub record Counts (p : PartsView) (core : CoreId) (accepted : ℕ) (stats : StatsView) : Type 0 where
   pub sized : length stats.cores ≡ length p.stats.cores
   pub here : accepted_of (counts_of stats core) ≡ accepted
   pub others : (other : CoreId) → other.0 ≢ core.0
       → accepted_of (counts_of stats other) ≡ accepted_of (counts_of p.stats other)
 
--- A core's step leaves the counts right where as many wait as wait in its registers, and the log has room for them.
+-- A core's step leaves the counts right where the number that wait is that in its registers, and the log has room.
 pub counted-step : (p : PartsView) (core : CoreId) (cache : CoreCacheView) (log : List Entry) (stats : StatsView)
     (pending room : ℕ)
     → HasFittingCounts p → core.0 < length p.view.caches
@@ -91,7 +91,7 @@ counted-step p core cache log stats pending room c known waits fits bounded coun
 
 -- ---- channels and entries of a line
 
--- A line's channels still are as many as there are cores.
+-- A line still has channels for each core.
 pub shaped-channels : (v : View) (local : Local) (line : LineChannels)
     → length line.cores ≡ length (channels_at v local).cores
     → IsShaped v → IsShaped (with_channels v local line)

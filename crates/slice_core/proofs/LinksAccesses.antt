@@ -197,7 +197,7 @@ passing test (Some copy) passes = (refl, passes)
 module _ (v : View) (core : CoreId) (local : Local) (shaped : IsShaped v) (links : HasLinks v)
     (there : core.0 < length v.caches) (within : local.0 < v.lines.lines) (leaves : CanLeave (cache_at v core) local)
   where
-    -- a core in which the line has left, and which has the same misses, has told the directory
+    -- a core in which the line has left, and which has the same misses, has notified the directory
     links_leaving : (cache : CoreCacheView) → cache.misses ≡ (cache_at v core).misses →
         ChangesLine (cache_at v core) cache local None (Some (leaving_after_evict (array_copy (cache_at v core) local)))
         →
@@ -227,7 +227,7 @@ module _ (v : View) (core : CoreId) (local : Local) (shaped : IsShaped v) (links
 
 module _ (v : View) (core : CoreId) (local : Local) (shaped : IsShaped v) (few : length v.caches ≤ 64)
     (links : HasLinks v) (there : core.0 < length v.caches) (within : local.0 < v.lines.lines) where
-  -- a victim that leaves for the line keeps the links
+  -- a victim that is evicted for the line keeps the links
   module _ (replaces : CanReplace (cache_at v core) local) (victim : HasVictim v core local) where
     abbrev left : Local
     left = caches.victim_for (cache_at v core) local

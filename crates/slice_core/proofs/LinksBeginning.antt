@@ -30,7 +30,7 @@ use Rattle.slice_queues.specs.Line.{CoreChannels, LineChannels, empty_line, no_m
 use Rattle.writeback_buffer.specs.Buffer.{held_at as buffer_at}
 use Rattle.writeback_buffer.specs.declared.pending.Leaving.{Leaving}
 
--- in a line of so many cores in which nothing waits, nothing is asked for
+-- in a line of `cores` cores in which nothing waits, nothing is asked for
 asked-empty : (cores core : ℕ) → asked (empty_line cores) core ≡ None
 asked-empty cores core =
     elim (cases_lt core cores) [

@@ -39,9 +39,8 @@ pub same_local : (a b : Local) → a.0 ≡ b.0 → a ≡ b
 same_local a b e = let named : ℕ → Local = λ n. record { 0 = n } in ap named e
 
 -- The core has this cache now and the line these channels: of the line the core's array and buffer hold this, its
--- register
--- fits the copy, and so does what the core has asked for. Registers of other lines and requests of other cores are as
--- they were.
+-- register fits the copy, and so does what the core has asked for. Registers of other lines and requests of other cores
+-- are as they were.
 pub record IsLineStep (v : View) (core : CoreId) (local : Local) (cache : CoreCacheView) (line : LineChannels)
     (copy : Option CacheCopy) (leaving : Option Leaving) : Type 0 where
   pub changes : ChangesLine (cache_at v core) cache local copy leaving

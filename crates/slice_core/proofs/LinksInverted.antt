@@ -1,7 +1,7 @@
 -- Where a core's miss file is bounded by its tags alone, no request waits for a register or for a field of one.
 use Rattle.std.proofs.Common.{◌≡◌, ℕ, ◌<◌, Bool, true, false, not, if◌then◌else◌, List, length, Option, Some, None}
 use Rattle.std.proofs.Common.{is_some, IfSome, refl, sym, ap, ◌∙◌, subst, ⊎_elim}
-use Rattle.std.specs.Prelude.{◌⊎◌, ◌==◌, Result, Ok, Err}
+use Rattle.std.specs.Prelude.{◌⊎◌, ◌==◌, Result, Ok}
 use Rattle.address_map.specs.declared.address.CoreId.{CoreId}
 use Rattle.address_map.specs.declared.address.Local.{Local}
 use Rattle.address_map.specs.declared.request.Op.{Op}
@@ -23,6 +23,7 @@ use Rattle.slice_answer.specs.declared.answer.Refused.{Refused}
 use Rattle.slice_answer.specs.declared.answer.Stall.{Stall}
 use Rattle.slice_answer.specs.declared.answer.Stall.TheVariants as stalls
 use Rattle.slice_core_spec.specs.Decision.{decision_of}
+use Rattle.slice_core_spec.specs.Calls.{AfterDecision}
 use Rattle.slice_core_spec.specs.Calls.{PartsView, AfterAccepting, AfterAccess, AfterIssue, IsAccepted, LacksMemory}
 use Rattle.slice_core_spec.specs.View.{cache_at}
 use Rattle.slice_core_spec.specs.declared.decision.Decision.{Decision}
@@ -54,7 +55,7 @@ FindsRegister (access_kinds.Stall stalls.NoRegister) = ⊥
 FindsRegister (access_kinds.Stall stalls.NoTarget) = ⊥
 FindsRegister _ = Unit {0}
 
--- ---- a line that nobody waits for
+-- ---- a line that no access waits for
 
 -- The table has a row for each access to a copy that is in the array and waits for nothing.
 finds-rests : (cache : CoreCacheView) (local : Local) (state : CopyState) → stands_in_array state ≡ true
@@ -74,7 +75,7 @@ finds-held cache local state stands rests (ops.Store new) = (finds-rests cache l
 finds-held cache local state stands rests (ops.Add increment) = (finds-rests cache local state stands rests).1
 finds-held cache local state stands rests (ops.Cas expect new) = (finds-rests cache local state stands rests).1
 
--- A line that stands nowhere waits for a way or for the write-back buffer, if for anything.
+-- A line that is nowhere waits for a way or for the write-back buffer, if for anything.
 finds-way : (cache : CoreCacheView) (local : Local) (next : CopyState) (ask : Ask)
     → FindsRegister (in_way cache local next ask)
 finds-way cache local next ask = by (has_way cache local) (has_victim cache local) (has_buffer_room cache)
@@ -187,11 +188,6 @@ module _ (old : PartsView) (core : CoreId) (request : Request) (answer : Result 
   needs-access (access_kinds.PrimaryMiss next ask placement) local finds after =
       needs-memory (access_kinds.PrimaryMiss next ask placement) local finds after
 
-  -- what an issue answers and leaves, by what was decided
-  abbrev by_decision : Decision → Type 0
-  by_decision (decisions.Refuse refused) = (answer ≡ Err refused) × (new ≡ old)
-  by_decision (decisions.Access local access) = AfterAccess access old core request local answer new
-
   -- An issue waits for no register where the core's file is bounded by tags alone.
   pub needs-issue : IsSound old → core.0 < length old.view.caches → IsInverted old.view core
       → AfterIssue old core request answer new → NeedsNoRegister answer
@@ -204,7 +200,8 @@ module _ (old : PartsView) (core : CoreId) (request : Request) (answer : Result 
           (free-unused old core request.tag sound.accounts known judged.free)
           (sound.links.waits core local known))
 
-      decided : (decision : Decision) → decision_of old.view core request ≡ decision → by_decision decision
+      decided : (decision : Decision) → decision_of old.view core request ≡ decision
+          → AfterDecision decision old core request answer new
           → NeedsNoRegister answer
       decided (decisions.Refuse refused) is after = subst NeedsNoRegister (sym after.0) tt
       decided (decisions.Access local access) is after =

@@ -85,8 +85,7 @@ goes_on-row forwarded_messages.PutAck state =
     (λ b. each_state-at (λ s. goes_to (goes_on true s (Some (request_messages.PutM b))) (row_of s cache_events.PutAck))
     refl state)
 
--- A copy that answers a forwarded message stays where it stands unless nothing is left of it. It waits as before, and
--- has
+-- A copy that answers a forwarded message stays where it is unless nothing is left of it. It waits as before, and has
 -- sent what it had.
 pub record GoesOn (state next : CopyState) (request : Option RequestMessage) : Type 0 where
   pub stands : is_gone next ≡ false → stands_in_array next ≡ stands_in_array state
@@ -126,7 +125,7 @@ unfoldable comes : CopyState → Option RequestMessage → CopyState → CacheSe
 comes state request next sent =
     (is_waiting state && stands_in_array next) && implies (has_sent state request) (has_sent next request)
 
--- A copy that data or an acknowledgement come to waited for them, and stands in the array. It has sent what it had.
+-- A copy that data or an acknowledgement come to waited for them, and is in the array. It has sent what it had.
 pub record ComesTo (state next : CopyState) (request : Option RequestMessage) : Type 0 where
   pub waited : is_waiting state ≡ true
   pub stands : stands_in_array next ≡ true
@@ -225,7 +224,7 @@ unfolding asked_then
 settled-sent copy_states.S targets request sent = shared-sent (behind_loads targets) request sent
 settled-sent _ targets request sent = sent
 
--- It stands in the array as before.
+-- It is in the array as before.
 pub settled-stands : (state : CopyState) (targets : List Target) → stands_in_array state ≡ true →
     stands_in_array (settled_state state (left_in state targets)) ≡ true
 settled-stands copy_states.S targets stands = shared (behind_loads targets)

@@ -57,7 +57,7 @@ cache-recounted [] core = refl
 cache-recounted (cache ∷ caches) zero = refl
 cache-recounted (cache ∷ caches) (suc core) = cache-recounted caches core
 
--- As many targets wait.
+-- The number of targets that wait is unchanged.
 waiting-recounted : (caches : List CoreCacheView)
     → sum_by (λ (cache : CoreCacheView). target_count cache.misses) (map recounted caches)
     ≡ sum_by (λ (cache : CoreCacheView). target_count cache.misses) caches
@@ -112,7 +112,7 @@ value_small initial log w = mod_below _ (2 ^ 64) (omega arith)
 
 -- ---- a line
 
--- A line stands as it did where the newest block has what the new log gives.
+-- A line is as it was where the newest block has what the new log gives.
 line-anew : (exclusive : Bool) (cores now : ℕ) (init begun : ℕ → ℕ) (log : List Entry) (first : ℕ) (entry : DirEntry)
     (channels : LineChannels) (copy : ℕ → CacheCopy) → now ≡ cores
     → ((block : Block) → HasValues init log first block → HasValues begun [] first block)

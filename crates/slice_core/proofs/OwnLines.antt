@@ -1,4 +1,4 @@
--- The lines of a core's copies are lines of the slice, wherever the copies stand.
+-- The lines of a core's copies are lines of the slice, wherever the copies are.
 use Rattle.std.proofs.Common.{◌≡◌, ◌<◌, ℕ, zero, suc, true, List, [], ◌∷◌, length, map, slice_get, Option, Some, None}
 use Rattle.std.proofs.Common.{IsSome, refl, ap, ⊎_elim}
 use Rattle.std.specs.Prelude.{All, is_some}

@@ -57,7 +57,7 @@ run_then old calls answers middle later given new one other = record {
   leads = leads-on old.view middle.view new.view one.steps other.steps one.leads other.leads;
 }
 
--- After the calls in front of a place the call at that place is made, and its answer is written there.
+-- After the calls before a place the call at that place is made, and its answer is written there.
 pub run_more : (old : PartsView) (calls : List Call) (answers : List CallAnswer) (middle : PartsView) (place : ℕ)
     (default : Call) (answer : CallAnswer) (new : PartsView)
     → place < length calls → length answers ≡ length calls
@@ -73,7 +73,7 @@ run_more old calls answers middle place default answer new within alike run afte
     (run_then old (take place calls) (take place answers) middle (get_or calls place default ∷ []) (answer ∷ []) new
     run after))
 
--- Where no answer in front of a place is broken, nor the one that is written there, none up to it is.
+-- Where no answer before a place is broken, nor the one that is written there, none up to it is.
 pub unbroken_more : (calls : List Call) (answers : List CallAnswer) (place : ℕ) (answer : CallAnswer)
     → place < length calls → length answers ≡ length calls → All IsUnbroken (take place answers)
     → IsUnbroken answer → All IsUnbroken (take (place + 1) (set answers place answer))
@@ -82,7 +82,7 @@ unbroken_more calls answers place answer within alike before is =
     subst (All IsUnbroken) (sym (take_more_set answers place answer inside))
     (All-push IsUnbroken (take place answers) answer before is)
 
--- The calls of a run answer and leave what its steps do, one after another.
+-- The calls of a run return and leave what its steps do, one after another.
 each-runs : (old : PartsView) (calls : List Call) (answers : List CallAnswer) (new : PartsView) (steps : List Step)
     → AreStepsOfEach old calls answers new steps → Runs old calls answers new
 each-runs old [] [] new steps each = each.0

@@ -1,5 +1,5 @@
 -- Each call leaves a slice the one that it was.
-use Rattle.std.proofs.Common.{◌≡◌, ℕ, List, Option, Some, None, Result, Err, length, refl, sym, ◌∙◌, subst, ⊎_elim}
+use Rattle.std.proofs.Common.{◌≡◌, ℕ, List, Option, Some, None, Result, length, refl, sym, ◌∙◌, subst, ⊎_elim}
 use Rattle.std.proofs.Common.{length-set}
 use Rattle.std.specs.Prelude.{◌⊎◌}
 use Rattle.address_map.specs.Locator.{local_at}
@@ -15,7 +15,7 @@ use Rattle.slice_core.specs.Facts.{IsSameSlice}
 use Rattle.slice_core.specs.Shape.{shape_of}
 use Rattle.slice_core.proofs.Shapes.{shape-advance, shape-evict, shape-hit, shape-open, shape-replace, shape-settle}
 use Rattle.slice_core.proofs.Shapes.{shapes-kept}
-use Rattle.slice_answer.specs.Stats.{StatsView, after_eviction}
+use Rattle.slice_answer.specs.Stats.{StatsView}
 use Rattle.slice_answer.specs.declared.answer.Delivered.{Delivered}
 use Rattle.slice_answer.specs.declared.answer.Delivered.TheVariants as delivered
 use Rattle.slice_answer.specs.declared.answer.Evicted.{Evicted}
@@ -24,7 +24,6 @@ use Rattle.slice_answer.specs.declared.answer.Issue.{Issue}
 use Rattle.slice_answer.specs.declared.answer.Refused.{Refused}
 use Rattle.slice_log.specs.declared.entry.Entry.{Entry}
 use Rattle.slice_log.specs.declared.entry.Numbered.{Numbered}
-use Rattle.slice_core_cache.specs.Access.{evicted_of}
 use Rattle.slice_core_cache.specs.CoreCache.{CoreCacheView}
 use Rattle.slice_core_cache.specs.declared.access.AccessKind.{AccessKind}
 use Rattle.slice_core_cache.specs.declared.access.AccessKind.TheVariants as access_kinds
@@ -33,16 +32,16 @@ use Rattle.slice_core_cache.specs.declared.access.Placement.{Placement}
 use Rattle.slice_core_cache.specs.declared.access.Placement.TheVariants as placements
 use Rattle.slice_core_cache.specs.declared.copy.CacheCopy.{CacheCopy}
 use Rattle.slice_core_spec.specs.Decision.{decision_of}
+use Rattle.slice_core_spec.specs.Calls.{AfterDecision, AfterEvictAt, AfterEvicted}
 use Rattle.slice_core_spec.specs.Calls.{PartsView, AfterAccepting, AfterAccess, AfterDeliverNext, AfterDelivery}
 use Rattle.slice_core_spec.specs.Calls.{AfterEvict, AfterHand, AfterIssue, AfterPlan, IsAccepted, LacksMemory, Settles}
 use Rattle.slice_core_spec.specs.Calls.{core_of, opened_stats, local_in, IsDone}
 use Rattle.slice_core_spec.specs.Plan.{plan_of, planned_in}
-use Rattle.slice_core_spec.specs.Steps.{after_evict, after_open, is_held, with_way}
+use Rattle.slice_core_spec.specs.Steps.{after_open, is_held, with_way}
 use Rattle.slice_core_spec.specs.View.{cache_at, with_cache}
 use Rattle.slice_core_spec.specs.declared.decision.Decision.{Decision}
 use Rattle.slice_core_spec.specs.declared.decision.Decision.TheVariants as decisions
 use Rattle.slice_queues.specs.Line.{LineChannels}
-use Rattle.slice_queues.specs.Ring.{with_listed}
 use Rattle.slice_queues.specs.Pick.{channel_of, line_of}
 use Rattle.slice_queues.specs.declared.channel.Channel.{Channel}
 use Rattle.slice_queues.specs.declared.channel.Class.{Class}
@@ -189,12 +188,7 @@ module _ (old : PartsView) (core : CoreId) (request : Request) (answer : Result 
   accessed local (access_kinds.PrimaryMiss next ask placement) after =
       let_in local (access_kinds.PrimaryMiss next ask placement) after
 
-  -- what an issue answers and leaves, by what was decided
-  abbrev by_decision : Decision → Type 0
-  by_decision (decisions.Refuse refused) = (answer ≡ Err refused) × (new ≡ old)
-  by_decision (decisions.Access local access) = AfterAccess access old core request local answer new
-
-  decided : (decision : Decision) → by_decision decision → IsSameSlice old new
+  decided : (decision : Decision) → AfterDecision decision old core request answer new → IsSameSlice old new
   decided (decisions.Refuse refused) after = same-is old new after.1
   decided (decisions.Access local access) after = accessed local access after
 
@@ -204,23 +198,7 @@ module _ (old : PartsView) (core : CoreId) (request : Request) (answer : Result 
 -- ---- evict
 
 module _ (old : PartsView) (core : CoreId) (line : LineAddr) (answer : Evicted) (new : PartsView) where
-  -- what is left of the slice, by the answer to an eviction
-  abbrev by_answer : Local → Evicted → Type 0
-  by_answer local evictions.Evicting =
-      new
-      ≡ record old {
-        view = after_evict old.view core local;
-        stats = after_eviction old.stats core;
-        ring = with_listed old.ring local.0;
-      }
-  by_answer local _ = new ≡ old
-
-  -- what an eviction answers and leaves, by the line's place
-  abbrev by_line : Option Local → Type 0
-  by_line None = (answer ≡ evictions.NotHeld) × (new ≡ old)
-  by_line (Some local) = (answer ≡ evicted_of (cache_at old.view core) local) × by_answer local answer
-
-  answered : (local : Local) (given : Evicted) → by_answer local given → IsSameSlice old new
+  answered : (local : Local) (given : Evicted) → AfterEvicted given old core local new → IsSameSlice old new
   answered local evictions.Evicting after =
       subst (IsSameSlice old) (sym after)
       (part-changed old core _ _ _ _ _ _ (shape-evict (cache_at old.view core) local) refl)
@@ -228,7 +206,7 @@ module _ (old : PartsView) (core : CoreId) (line : LineAddr) (answer : Evicted) 
   answered local evictions.NotHeld after = same-is old new after
   answered local evictions.WriteBackFull after = same-is old new after
 
-  placed : (place : Option Local) → by_line place → IsSameSlice old new
+  placed : (place : Option Local) → AfterEvictAt place old core answer new → IsSameSlice old new
   placed None after = same-is old new after.1
   placed (Some local) after = answered local answer after.1
 
@@ -263,7 +241,7 @@ planned (deliveries.Moved (transitions.Fill step)) old local channel answer new 
 planned (deliveries.Moved (transitions.Acknowledge step)) old local channel answer new after = settled old local _ channel _ new after.1
 
 module _ (old : PartsView) (pick : Pick) (answer : Delivered) (new : PartsView) where
-  -- what a delivery answers and leaves, by the line's place
+  -- what a delivery returns and leaves, by the line's place
   abbrev by_place : Option Local → Type 0
   by_place place =
       AfterPlan (planned_in old.view place (channel_of pick)) old (local_in place) (channel_of pick) answer new

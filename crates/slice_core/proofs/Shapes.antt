@@ -36,7 +36,7 @@ shapes-kept v core cache same = map-set_same shape_of v.caches core.0 cache no_c
 abbrev ways_of : ArrayView CacheCopy PolicyKind → List ℕ
 ways_of array = map (λ (set : SetView CacheCopy). set.ways) array.sets
 
--- Whatever stands in the slots of a set, each set has its ways.
+-- Whatever is in the slots of a set, each set has its ways.
 ways-kept : (array : ArrayView CacheCopy PolicyKind) (local : Local) (slots : List (Slot CacheCopy))
     → ways_of (with_slots array local slots) ≡ ways_of array
 ways-kept array local slots =

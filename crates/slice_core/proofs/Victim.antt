@@ -1,6 +1,6 @@
 -- A miss for which a line has to leave: the core's write-back buffer takes the victim in last.
 use Rattle.std.proofs.Common.{◌≡◌, ◌<◌, ◌-◌, List, [], ◌∷◌, ◌++◌, length, map, slice_get, Some, Result, Ok}
-use Rattle.std.proofs.Common.{Err, refl, sym, ap, subst, ◌∙◌, arith, ⊎_elim, length-append, length-set}
+use Rattle.std.proofs.Common.{refl, sym, ap, subst, ◌∙◌, arith, ⊎_elim, length-append, length-set}
 use Rattle.std.specs.Prelude.{◌⊎◌, false}
 use Rattle.std.proofs.lemmas.List.{get_or-set_same, map-append}
 use Rattle.address_map.specs.Locator.{Lines, line_at}
@@ -11,6 +11,7 @@ use Rattle.address_map.specs.declared.request.Request.{Request}
 use Rattle.cache_table.specs.declared.state.CopyState.{CopyState}
 use Rattle.mshr_file.specs.declared.registers.Register.{Register}
 use Rattle.slice_answer.specs.declared.answer.Issue.{Issue}
+use Rattle.slice_answer.specs.declared.answer.Issue.TheVariants as issues
 use Rattle.slice_answer.specs.declared.answer.Refused.{Refused}
 use Rattle.slice_core.specs.Facts.{LeavesVictim}
 use Rattle.slice_core_cache.specs.CoreCache.{CoreCacheView, array_copy, leaving_lines}
@@ -21,7 +22,7 @@ use Rattle.slice_core_cache.specs.declared.access.Ask.{Ask}
 use Rattle.slice_core_cache.specs.declared.access.Placement.{Placement}
 use Rattle.slice_core_cache.specs.declared.access.Placement.TheVariants as placements
 use Rattle.slice_core_spec.specs.Decision.{decision_of}
-use Rattle.slice_core_spec.specs.Calls.{PartsView, AfterAccess, AfterIssue, IsAccepted, LacksMemory}
+use Rattle.slice_core_spec.specs.Calls.{PartsView, AfterAccess, AfterIssue, IsAccepted, LacksMemory, AfterDecision}
 use Rattle.slice_core_spec.specs.Steps.{after_open, with_way}
 use Rattle.slice_core_spec.specs.View.{View, no_cache, cache_at}
 use Rattle.slice_core_spec.specs.declared.decision.Decision.{Decision}
@@ -89,10 +90,6 @@ module _ (old : PartsView) (core : CoreId) (request : Request) (answer : Result 
   abbrev Leaves : Decision → Result Issue Refused → Type 0
   Leaves decision given = LeavesVictim decision old.view core given new.view
 
-  abbrev by_decision : Decision → Type 0
-  by_decision (decisions.Refuse refused) = (answer ≡ Err refused) × (new ≡ old)
-  by_decision (decisions.Access local access) = AfterAccess access old core request local answer new
-
   left_for : (local : Local) (next : CopyState) (ask : Ask)
       → LacksMemory old answer new
       ⊎ IsAccepted (access_kinds.PrimaryMiss next ask placements.Victim) old core request local answer new
@@ -116,7 +113,7 @@ module _ (old : PartsView) (core : CoreId) (request : Request) (answer : Result 
   opened local next ask placements.Free after = tt
   opened local next ask placements.Victim after = left_for local next ask after
 
-  decided : (decision : Decision) → by_decision decision → Leaves decision answer
+  decided : (decision : Decision) → AfterDecision decision old core request answer new → Leaves decision answer
   decided (decisions.Refuse refused) after = tt
   decided (decisions.Access local (access_kinds.Stall stall)) after = tt
   decided (decisions.Access local (access_kinds.Hit way next silent)) after = tt
@@ -128,3 +125,13 @@ module _ (old : PartsView) (core : CoreId) (request : Request) (answer : Result 
   pub leaves_victim : AfterIssue old core request answer new → LeavesVictim (decision_of old.view core request)
       old.view core answer new.view
   leaves_victim after = decided (decision_of old.view core request) after
+
+  -- The victim of a primary miss is what the core's write-back buffer took in last.
+  pub victim_left_last : (local : Local) (next : CopyState) (ask : Ask) (seq : ℕ)
+      → decision_of old.view core request
+      ≡ decisions.Access local (access_kinds.PrimaryMiss next ask placements.Victim)
+      → answer ≡ Ok (issues.Pending seq) → AfterIssue old core request answer new
+      → last_written_back new.view core ≡ Some (line_at old.view.lines (victim_for (cache_at old.view core) local))
+  victim_left_last local next ask seq is says after =
+      let decision : Decision = decisions.Access local (access_kinds.PrimaryMiss next ask placements.Victim) in
+      subst (Leaves decision) says (subst (λ (d : Decision). Leaves d answer) is (leaves_victim after))

@@ -46,7 +46,7 @@ use Rattle.target_list.specs.declared.target.Target.{Target}
 use Rattle.slice_answer.specs.declared.answer.Delivery.TheVariants as deliveries
 use Rattle.slice_answer.specs.declared.answer.Delivery.{Delivery}
 
--- Each request that a core had accepted stands in exactly one place, and nothing else stands there. It is a target of
+-- Each request that a core had accepted is in exactly one place, and nothing else is there. It is a target of
 -- a miss register, or an entry of the log: a reply, as long as a tag names its number, and handed out otherwise.
 pub record IsStanding (v : View) : Type 0 where
   pub once : (core : CoreId) (seq : ℕ)
@@ -76,10 +76,10 @@ CountsAccepted p =
     (core : CoreId) → core.0 < length p.view.caches → accepted_of (counts_of p.stats core) ≡
     (cache_at p.view core).accepted
 
--- A slice of which the theorems of the crates below speak. It is of one size in all its parts, with one core at least
--- and 64 at most; a core's copies stand where they belong, none twice; its lines are some of a machine's, each target
--- names a word of its line, and each core's registers, tags and entries account for its requests; and each line stands,
--- with its blocks, as one that the protocol's machine can come to: so what is proved of such a line is true of it.
+-- A slice to which the theorems of the crates below apply. It is of one size in all its parts, with one core at least
+-- and 64 at most; a core's copies are where they belong, none twice; its lines are some of a machine's, each target
+-- names a word of its line, and each core's registers, tags and entries account for its requests; and each line is,
+-- with its blocks, in a state that the protocol's machine can come to: so what is proved of such a line is true of it.
 pub record IsReachedSlice (v : View) : Type 0 where
   pub some_core : 0 < length v.caches
   pub whole : IsWhole v
@@ -154,7 +154,7 @@ abbrev pub front_at : View → Option Local → Channel → Option Message
 front_at v None channel = None
 front_at v (Some local) channel = slice_get (messages_at (channels_at v local) channel) 0
 
--- A core's copy of a line, wherever it stands: none of a line that isn't the slice's.
+-- A core's copy of a line, wherever it is: none of a line that isn't the slice's.
 abbrev pub copy_at : View → CoreId → Option Local → Option CacheCopy
 copy_at v core None = None
 copy_at v core (Some local) = Some (copy_of (cache_at v core) local)
@@ -170,7 +170,7 @@ AreWaitingAt v None shown = ⊥
 AreWaitingAt v (Some local) shown =
     (shown ≡ line_waiting (channels_at v local)) × HasEachOnce (channels_at v local) shown
 
--- Each pick in front of which a message waits stands in the list once, and no other does. (A channel of
+-- Each pick in front of which a message waits is in the list once, and no other is. (A channel of
 -- acknowledgements names one of 64 cores as its sender.)
 abbrev pub HasEachFrontOnce : View → List Pick → Type 0
 HasEachFrontOnce v picks =
@@ -191,7 +191,7 @@ LeavesVictim (decisions.Access local (access_kinds.PrimaryMiss next ask placemen
     last_written_back new core ≡ Some (line_at old.lines (victim_for (cache_at old core) local))
 LeavesVictim decision old core answer new = Unit {0}
 
--- The request was not put off for want of a miss register, nor of a field of one.
+-- The request was not put off for lack of a miss register, nor of a field of one.
 abbrev pub NeedsNoRegister : Result Issue Refused → Type 0
 NeedsNoRegister (Ok (issues.Stall stalls.NoRegister)) = ⊥
 NeedsNoRegister (Ok (issues.Stall stalls.NoTarget)) = ⊥

@@ -56,7 +56,7 @@ has_sent state (Some request_messages.PutS) = is_leaving state
 has_sent state (Some (request_messages.PutM block)) = is_leaving state
 has_sent state request = false
 
--- A core's copies stand where they belong; each that waits has a register; and what a core has asked for a line fits
+-- A core's copies are where they belong; each that waits has a register; and what a core has asked for a line fits
 -- its copy. So nothing is asked for a copy that waits for nothing.
 pub record HasLinks (v : View) : Type 0 where
   pub kept : (core : CoreId) → core.0 < length v.caches → IsKept (cache_at v core)
@@ -70,7 +70,7 @@ pub record HasLinks (v : View) : Type 0 where
       → has_sent (state_of (cache_at v core) local) (core_at (channels_at v local) core.0).request ≡ true
   pub owned : (local : Local) → local.0 < v.lines.lines → IsOwned v local
 
--- All of it; and each line stands, with its blocks, as one that the protocol's machine can come to, and the log is
+-- All of it; and each line is, with its blocks, in a state that the protocol's machine can come to, and the log is
 -- legal.
 pub record IsSound (p : PartsView) : Type 0 where
   pub counted : HasFittingCounts p

@@ -1,13 +1,13 @@
 //! One slice of the last level with its private caches, as a pure state machine.
 //!
 //! [`SliceState`] takes the calls of cores and the deliveries of messages one at a time, in any order. What each call
-//! does is said exactly by the definitions of `slice_core_exec`; what holds after every call stands in
-//! `specs/Facts.antt`: each accepted request stands in exactly one target, reply or hand-out; a core's entries of a
-//! line stand in the log in the order in which it asked for them; each copy that waits has its one miss register; each
+//! does is said exactly by the definitions of `slice_core_exec`; what holds after every call is in
+//! `specs/Facts.antt`: each accepted request is in exactly one target, reply or hand-out; a core's entries of a
+//! line are in the log in the order in which it asked for them; each copy that waits has its one miss register; each
 //! tag names what was asked for under it; and a core whose miss file is bounded by tags alone waits for no miss
-//! register. `specs/Sound.antt` is the invariant that shows it. To somebody who sees only requests and replies each
+//! register. `specs/Sound.antt` is the invariant that shows it. To an observer of only requests and replies each
 //! call is, by its clause `machine`, some steps of the small machine of `slice_core_theory`. [`SliceState::run`] makes
-//! a list of calls; by `specs/Run.antt` it answers and leaves what its calls do one after another, and is one run of
+//! a list of calls; by `specs/Run.antt` it returns and leaves what its calls do one after another, and is one run of
 //! that machine.
 //!
 //! What a call would do can be asked before it is made, and that changes nothing and takes no memory:

@@ -13,7 +13,7 @@ pub enum Call {
     Hand(CoreId),
 }
 
-/// What a call was answered. The answer to a call is of the call's variant.
+/// What a call returned. It is of the call's variant.
 #[derive(Clone, Copy, Debug, PartialEq, Eq)]
 pub enum CallAnswer {
     Issue(Result<Issue, Refused>),

@@ -53,7 +53,7 @@ impl<F: MissFile> Model for SliceState<F> {
 }
 
 impl<F: MissFile> SliceState<F> {
-    /// A slice of the configured machine, with its initial values, in which nothing was asked for yet.
+    /// Returns a slice of the configured machine, with its initial values, in which nothing was requested yet.
     pub fn build(alloc: Global, config: &Checked, slice: SliceId) -> Result<Self, AllocError>
         requires { slice.0 < config.now.slices }
         ensures new { IfOk result (IsNew config.now (F.bound_by config.now) slice) }
@@ -64,7 +64,7 @@ impl<F: MissFile> SliceState<F> {
         Self::build_like(alloc, config, slice, &empty)
     }
 
-    /// The same, but that its cores keep their misses in files like this one, which has none.
+    /// The same, but its cores keep their misses in files like this one, which is empty.
     pub fn build_like(
         alloc: Global,
         config: &Checked,
@@ -91,7 +91,7 @@ impl<F: MissFile> SliceState<F> {
         })
     }
 
-    /// Accepts a request of a core, or says why not. A request that hits is performed and handed out by this answer;
+    /// Accepts a request of a core, or says why not. A request that hits is performed and handed out by this call;
     /// one that misses becomes a target, and waits for messages to be delivered. The log grows first, so that no other
     /// call takes memory.
     pub fn issue(&mut self, core: CoreId, request: Request) -> Result<Issue, Refused>
@@ -107,7 +107,7 @@ impl<F: MissFile> SliceState<F> {
         self.parts.issue(core, request)
     }
 
-    /// Gives up the core's copy of a line, or says why not.
+    /// Evicts the core's copy of a line, or says why not.
     pub fn evict(&mut self, core: CoreId, line: LineAddr) -> Evicted
         requires { core.0 < length self.old.view.caches }
         ensures step { AfterEvict self.old core line result self.new }
@@ -236,7 +236,8 @@ impl<F: MissFile> SliceState<F> {
         self.parts.stats()
     }
 
-    /// Whether no message is in flight, no miss register is held, no line leaves and each reply is handed out.
+    /// Whether no message is in flight, no miss register is held, no write-back is pending and each reply is handed
+    /// out.
     pub fn is_quiet(&self) -> bool
         ensures { IsTrue result ↔ IsQuiet self.now.view }
     {
@@ -264,7 +265,7 @@ impl<F: MissFile> SliceState<F> {
         Some(self.parts.line_view(local))
     }
 
-    /// A core's copy of a line, which is in its array, or leaves by its write-back buffer, or is nowhere. None for
+    /// Returns a core's copy of a line, which is in its array, in its write-back buffer, or nowhere. None for
     /// a line that isn't the slice's.
     pub fn copy(&self, core: CoreId, line: LineAddr) -> Option<CacheCopy>
         requires { core.0 < length self.now.view.caches }
@@ -286,8 +287,8 @@ impl<F: MissFile> SliceState<F> {
         }
     }
 
-    /// Some of the lines of which a core has a copy, each once. It looks at the core's miss registers, its write-back
-    /// buffer or the one set, and at no other line.
+    /// Returns some of the lines that a core has a copy of, each once. It looks at the core's miss registers, its
+    /// write-back buffer or the one set, and at no other line.
     pub fn core_lines(
         &self,
         alloc: Global,

@@ -9,12 +9,12 @@ use Rattle.mshr_file.specs.Miss.{is_waited}
 use Rattle.target_list.specs.Target.{is_load, front_loads, behind_loads}
 use Rattle.target_list.specs.declared.target.Target.{Target}
 
--- somebody waits where there is a target
+-- a line is waited for exactly where it has a target
 pub is_waited-some : (targets : List Target) → nat_lt 0 (length targets) ≡ is_waited targets
 is_waited-some [] = refl
 is_waited-some (target ∷ targets) = lt-ltb 0 (length (target ∷ targets)) (omega arith)
 
--- as many as there are loads in front are these loads
+-- the first n targets, where n loads are in front, are these loads
 pub take-front_loads : (targets : List Target) → take (length (front_loads targets)) targets ≡ front_loads targets
 take-front_loads targets = ap (λ n. take n targets) (length-prefix_len is_load targets)
 
@@ -52,7 +52,7 @@ passing (target ∷ targets) = by (is_load target) (passing targets)
         (length targets) refl (omega arith) ∙ rest
     by false rest = ne_eqb 0 (length (target ∷ targets)) (omega arith)
 
--- all targets are loads exactly where as many loads stand in front as there are targets
+-- all targets are loads exactly where the loads in front are as many as the targets
 pub all-front_loads : (targets : List Target) →
     (length (front_loads targets) == length targets) ≡ list_all is_load targets
 all-front_loads targets = ap (λ n. n == length targets) (length-prefix_len is_load targets) ∙ passing targets

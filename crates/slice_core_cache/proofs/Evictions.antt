@@ -1,4 +1,4 @@
--- A line whose eviction is answered Evicting can leave.
+-- A line whose eviction returns Evicting can leave.
 use Rattle.std.proofs.Common.{◌≡◌, Bool, true, false, not, Option, Some, None, is_some, if◌then◌else◌, length, refl}
 use Rattle.std.proofs.lemmas.Bool.{ltb-true}
 use Rattle.address_map.specs.declared.address.Local.{Local}

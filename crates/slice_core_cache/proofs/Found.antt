@@ -297,7 +297,7 @@ module _ (cache : CoreCacheView) (local : Local) (kept : IsKept cache)
       kept-after_evict (after_draw cache) (victim_for cache local) (kept-after_draw cache kept)
       (record { held = leaves.held; room = leaves.room; absent = leaves.absent })
 
--- ---- a copy that goes to its next state, wherever it stands
+-- ---- a copy that goes to its next state, wherever it is
 
 -- the copy in this state
 abbrev pub moved_to : CopyState → CacheCopy → CacheCopy

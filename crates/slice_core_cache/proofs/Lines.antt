@@ -42,7 +42,7 @@ module _ (old new : CoreCacheView) (local : Local) (copy : Option CacheCopy) (le
       ap (λ o. found_in o (buffer_at new.buffer.write_backs other.0)) (changes.array_others other apart)
       ∙ ap (found_in (array_at old.array other)) (changes.buffer_others other apart)
 
-  -- and copies stand where they belong if the line's does
+  -- and copies are where they belong if the line's is
   pub kept_by : IsKept old → FitsIn copy leaving → IsKept new
   kept_by kept fits = record {
     array = changes.array_sound;

@@ -16,7 +16,7 @@ use Rattle.slice_core_cache.specs.declared.tags.TagState.TheVariants as tag_stat
 use Rattle.slice_log.specs.declared.entry.Entry.{Entry}
 use Rattle.target_list.specs.declared.target.Target.{Target}
 
--- what performing so many of a line's targets gives, as far as it is done
+-- what performing `count` of a line's targets gives, after the first `done` of them
 pub record IsPerformed (first : ℕ) (core : CoreId) (line count done : ℕ) (old now : List Register)
     (block0 block : Block) (tags0 tags : List TagState) (log0 log : List Entry) : Type 0 where
   pub taken : TakesTargets old now line (take done (targets_of old line))

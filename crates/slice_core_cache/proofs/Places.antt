@@ -15,7 +15,7 @@ use Rattle.cache_array.specs.History.{Event}
 use Rattle.cache_array.specs.Victim.{ShareSet, NoneMayGo, IsVictim}
 use Rattle.cache_array.proofs.Held.{removed_other, removed_way}
 
--- the place that a search answers is the first that passes
+-- the place that a search returns is the first that passes
 placed : {X : Type 0} (p : X → Bool) (xs : List X) (way : ℕ) → position p xs ≡ Some way →
     position_or_len p xs ≡ way
 placed p xs way found = by (nat_lt (position_or_len p xs) (length xs)) found
@@ -49,7 +49,7 @@ set_within {V = V} array line way found =
           cc
     ]
 
--- a line that was found stands there still, once its value was changed
+-- a line that was found is still there once its value was changed
 pub written_there : {V P : Type 0} (array : ArrayView V P) (line : Local) (way : ℕ) (value : V) →
     position (holds line) (slots_at array line) ≡ Some way →
     position (holds line) (slots_at (with_slots array line (after_write (slots_at array line) line value)) line)
@@ -88,7 +88,7 @@ stands_after array line victim test sound absent goes shares =
     some test None h = absurd h
     some test (Some value) h = refl
 
--- the line that a set gives up is one of that set which may go
+-- the line that a set evicts is one of that set which may go
 pub victim_goes : {V P : Type 0} (array : ArrayView V P) (line : Local) (test : V → Bool) (moves : Bool)
     (prefers : List Event → Local → Local → Type 0) (victim : Option Local) →
     MatchOption victim (NoneMayGo test array line) (IsVictim test moves prefers array line) →

@@ -1,4 +1,4 @@
--- What a core is left with once its copy has come to its state: told of the copy that was found in the array.
+-- What a core is left with once its copy has come to its state, in terms of the copy that was found in the array.
 use Rattle.std.proofs.Common.{◌≡◌, ◌++◌, ◌<◌, ◌≤◌, ℕ, zero, suc, Bool, List, [], ◌∷◌, Some, length, take}
 use Rattle.std.proofs.Common.{subst, sym, ap, refl, arith}
 use Rattle.std.specs.Prelude.{unwrap_or}

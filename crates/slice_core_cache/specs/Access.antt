@@ -52,7 +52,7 @@ has_victim cache local = list_any (λ slot. may_leave slot.value.state) (slots_a
 abbrev pub has_buffer_room : CoreCacheView → Bool
 has_buffer_room cache = nat_lt (length cache.buffer.write_backs) cache.buffer.capacity
 
--- where the copy of a line that isn't held is to stand: in a free way, or in that of a victim
+-- where the copy of a line that isn't held is placed: in a free way, or in that of a victim
 abbrev pub in_way : CoreCacheView → Local → CopyState → Ask → AccessKind
 in_way cache local next ask =
     if has_way cache local then access_kinds.PrimaryMiss next ask placements.Free
@@ -60,7 +60,7 @@ in_way cache local next ask =
     else if not (has_buffer_room cache) then access_kinds.Stall stalls.WriteBackFull
     else access_kinds.PrimaryMiss next ask placements.Victim
 
--- a write to an exclusive copy is silent: nobody is told
+-- a write to an exclusive copy is silent: no message is sent
 abbrev pub is_silent : CopyState → CopyState → Bool
 is_silent copy_states.E copy_states.M = true
 is_silent _ _ = false
@@ -85,7 +85,7 @@ absent_by cache local room (rows.Go next cache_sends.GetS) = with_register room 
 absent_by cache local room (rows.Go next cache_sends.GetM) = with_register room (in_way cache local next asks.GetM)
 absent_by cache local room _ = access_kinds.Stall stalls.NoTarget
 
--- an access to a line that nobody waits for: its copy is in the array, or leaves, or there is none
+-- an access to a line that no access waits for: its copy is in the array, or leaves, or there is none
 abbrev pub alone_of : CoreCacheView → Local → Bool → Op → AccessKind
 alone_of cache local room op = by_copy (array_at cache.array local)
   where
@@ -106,13 +106,13 @@ by_admission cache local op admissions.NoRegister = alone_of cache local false o
 abbrev pub access_of : CoreCacheView → Local → ℕ → Op → AccessKind
 access_of cache local tag op = by_admission cache local op (admission_of cache.bound cache.misses local.0 tag)
 
--- the line that leaves for another of its set, where the policy's word is this one
+-- the line that is evicted for another of its set, where the policy's word is this one
 abbrev pub victim_of : CoreCacheView → Local → ℕ → Option Local
 victim_of cache local word =
     line_in (slots_at cache.array local)
     (choice_of cache.array.policy (flags_of (λ copy. may_leave copy.state) (slots_at cache.array local)) word)
 
--- what an eviction is answered: a line that leaves already, or is waited for, is busy
+-- what an eviction returns: a line that leaves already, or is waited for, is busy
 abbrev pub evicted_of : CoreCacheView → Local → Evicted
 evicted_of cache local =
     if has_miss cache.misses local.0 then evictions.Busy
@@ -132,7 +132,7 @@ pub record CanLeave (cache : CoreCacheView) (local : Local) : Type 0 where
   pub room : length cache.buffer.write_backs < cache.buffer.capacity
   pub absent : buffer_at cache.buffer.write_backs local.0 ≡ None
 
--- a line that is missed can stand where it is to stand
+-- a line that is missed can be placed where it is to be
 abbrev pub CanStand : CoreCacheView → Local → Bool → Type 0
 CanStand cache local true = IsSome (array_at cache.array local)
 CanStand cache local false = (array_at cache.array local ≡ None) × HasWay cache.array local
@@ -145,7 +145,8 @@ is_idle copy_states.M = true
 is_idle copy_states.E = true
 is_idle _ = false
 
--- a victim can leave for the line: the line is nowhere, its set has a line that may leave, and the buffer has room
+-- a victim can leave for the line: the core has no copy of the line, its set has a line that may leave, and the
+-- buffer has room
 pub record CanReplace (cache : CoreCacheView) (local : Local) : Type 0 where
   pub absent : array_at cache.array local ≡ None
   pub stays : buffer_at cache.buffer.write_backs local.0 ≡ None

@@ -1,4 +1,4 @@
--- A core's copy of one line, wherever it stands.
+-- A core's copy of one line, wherever it is.
 use Rattle.std.specs.Prelude.{ℕ, Bool, true, false, replicate, slice_index, slice_set, Option, Some, None}
 use Rattle.address_map.specs.declared.block.Block.{Block}
 use Rattle.address_map.specs.declared.request.Op.{Op}

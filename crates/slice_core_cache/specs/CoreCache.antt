@@ -75,7 +75,7 @@ way_of cache local = unwrap_or (position (holds local) (slots_at cache.array loc
 abbrev pub tag_at : CoreCacheView → ℕ → TagState
 tag_at cache tag = tag_in cache.tags tag
 
--- no miss register, no line that leaves, and no reply that isn't handed out
+-- no miss register, no line that is written back, and no reply that isn't handed out
 pub record IsCoreCacheQuiet (cache : CoreCacheView) : Type 0 where
   pub misses : cache.misses ≡ []
   pub leaving : cache.buffer.write_backs ≡ []

@@ -57,7 +57,7 @@ left_in copy_states.M targets = []
 left_in copy_states.E targets = []
 left_in _ targets = targets
 
--- the state that the copy has at last: a shared copy for which a write waits asks for the right to write
+-- the state that the copy ends in: a shared copy for which a write waits asks for the right to write
 abbrev pub settled_state : CopyState → List Target → CopyState
 settled_state copy_states.S (target ∷ targets) = copy_states.SM_AD
 settled_state state _ = state

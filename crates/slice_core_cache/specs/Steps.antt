@@ -78,7 +78,7 @@ after_join cache request misses =
           cache.accepted + 1;
     }
 
--- the array once a line's copy waits: it stood there, or takes a free way
+-- the array once a line's copy waits: it was there, or takes a free way
 abbrev pub array_after_open : CoreCacheView → Local → Bool → CopyState → ArrayView CacheCopy PolicyKind
 array_after_open cache local held next =
     if held then with_copy cache.array local (record (array_copy cache local) { state = next; wants = 0; counted = 0 })
@@ -114,7 +114,7 @@ after_evict cache local = record cache {
   buffer = with_line cache.buffer local.0 (leaving_after_evict (array_copy cache local));
 }
 
--- the word by which a victim is chosen, and the core once it is drawn: only a random policy draws one
+-- the word that chooses a victim, and the core once it is drawn: only a random policy draws one
 abbrev pub drawn_by : PolicyKind → List ℕ → ℕ × List ℕ
 drawn_by (policy_kinds.Random seed) generator = plus_plus generator
 drawn_by _ generator = (0, generator)
@@ -125,7 +125,7 @@ drawn_word cache = (drawn_by cache.array.policy cache.generator).0
 abbrev pub after_draw : CoreCacheView → CoreCacheView
 after_draw cache = record cache { generator = (drawn_by cache.array.policy cache.generator).1 }
 
--- the line that leaves so that another of its set can come in
+-- the line that is evicted so that another of its set can come in
 abbrev pub victim_for : CoreCacheView → Local → Local
 victim_for cache local = unwrap_or (victim_of cache local (drawn_word cache)) local
 
@@ -147,13 +147,13 @@ advanced_in_buffer cache local next =
     if is_gone next then record cache { buffer = without_line cache.buffer local.0 }
     else record cache { buffer = with_state cache.buffer local.0 next }
 
--- the copy went to the next state, wherever it stands
+-- the copy went to the next state, wherever it is
 abbrev pub after_advance : CoreCacheView → Local → CopyState → CoreCacheView
 after_advance cache local next =
     if is_some (array_at cache.array local) then advanced_in_array cache local next
     else advanced_in_buffer cache local next
 
--- the counts of a copy: they begin anew once it waits no more
+-- the counts of a copy: they are reset once it waits no more
 abbrev pub settled_copy : CacheCopy → Block → CopyState → CacheCopy
 settled_copy copy block state =
     if is_waiting copy.state then record copy { block = block; state = state }

@@ -10,18 +10,18 @@ pub enum Ask {
     GetM,
 }
 
-/// Where the copy of a line that is missed stands then.
+/// Where the copy of a missed line is placed.
 #[derive(Clone, Copy, Debug, PartialEq, Eq)]
 pub enum Placement {
-    /// Where it stands already: it may be read, and is to be written.
+    /// Where it is already: it may be read, and is to be written.
     Held,
     /// In a free way of its set.
     Free,
-    /// In the way of a victim, which leaves in the same step.
+    /// In the way of a victim, which is evicted in the same step.
     Victim,
 }
 
-/// What is to be done with an access to a line of the slice, before memory is asked for.
+/// What is to be done with an access to a line of the slice, before memory is allocated.
 #[derive(Clone, Copy, Debug, PartialEq, Eq)]
 pub enum AccessKind {
     /// A secondary miss: the line is waited for already, and the access joins its miss register.

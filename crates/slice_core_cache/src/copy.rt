@@ -37,7 +37,7 @@ impl CacheCopy {
     }
 
     /// The copy has come to its state. A shared copy for which a target still waits asks for the right to write:
-    /// answers whether it does. The counts begin anew once the copy waits no more.
+    /// returns whether it does. The counts are reset once the copy waits no more.
     pub fn settle(&mut self, waited: bool) -> bool
         ensures asks { (targets : List Target) → waited ≡ is_waited (left_in self.old.state targets)
             → result ≡ asks_to_write self.old.state targets }

@@ -50,8 +50,8 @@ impl<F: MissFile> CoreCache<F> {
     ghost use Rattle.slice_core_cache.specs.CoreCache.{new_cache, copy_of, recounted, tag_at, IsCoreCacheQuiet};
     ghost use Rattle.slice_core_cache.specs.Steps.{AfterHand};
 
-    /// A core that has asked for nothing yet, and keeps its misses in this file, which has none. It takes all the memory
-    /// that it will ever need.
+    /// Returns a core that has requested nothing yet, and keeps its misses in this file, which is empty. It allocates
+    /// all the memory that it will ever need.
     pub fn with_file(
         alloc: Global,
         config: &Checked,
@@ -143,7 +143,7 @@ impl<F: MissFile> CoreCache<F> {
         self.accepted = 0;
     }
 
-    /// Whether no access waits, no line leaves and each reply is handed out.
+    /// Whether no access waits, no write-back is pending and each reply is handed out.
     pub fn is_quiet(&self) -> bool
         ensures { IsTrue result ↔ IsCoreCacheQuiet self.now }
     {

@@ -29,7 +29,7 @@ pub fn count_allowed<F: MissFile>(file: &F, local: Local, waiting: usize, state:
     }
 }
 
-/// Performs the first targets of a line on its block, as many as `count`, and logs each. `first` is the line's first
+/// Performs the first `count` targets of a line on its block, and logs each. `first` is the line's first
 /// word. The log has room.
 pub fn perform<F: MissFile>(
     file: &mut F,

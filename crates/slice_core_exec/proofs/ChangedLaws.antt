@@ -1,4 +1,4 @@
--- A copy that was changed in its slot is the copy that the array holds, and stands where it stood.
+-- A copy that was changed in its slot is the copy that the array holds, and stays where it was.
 use Rattle.std.proofs.Common.{◌≡◌, ◌∙◌, ℕ, ◌+◌, suc, Bool, true, false, not, cond, nat_lt, eq-eqb, arith, List, [], ◌∷◌}
 use Rattle.std.proofs.Common.{◌%◌, ◌<◌, length, get_or, set, refl, ap, sym, inl, inr, Some, None, position, unwrap_or}
 use Rattle.std.specs.List.{position_or_len}

@@ -1,4 +1,4 @@
--- What the delivery at a channel answers is what was to be done there, and what it leaves is that this was done.
+-- A delivery at a channel returns what was to be done there, and leaves the state in which this was done.
 use Rattle.std.proofs.Common.{◌≡◌, ◌≢◌, ◌∙◌, ap, refl, sym, subst}
 use Rattle.address_map.specs.Locator.{line_at}
 use Rattle.address_map.specs.declared.address.Local.{Local}
@@ -17,7 +17,7 @@ use Rattle.slice_answer.specs.declared.answer.Delivery.TheVariants as deliveries
 use Rattle.slice_answer.specs.declared.answer.Delivery.{Delivery}
 use Rattle.slice_core_spec.specs.declared.transition.Transition.{Transition}
 
--- the answer tells what was planned
+-- the answer says what was planned
 told-plan : (plan : Delivery Transition) (old new : PartsView) (local : Local) (channel : Channel) (answer : Delivered)
     → AfterPlan plan old local channel answer new → next_told local channel answer ≡ next_by local channel plan
 told-plan deliveries.Nothing old new local channel answer after = ap (next_told local channel) after.0
@@ -67,7 +67,7 @@ made-still old new deliveries.Blocked stays made = made
 made-still old new (deliveries.Broken cell) stays made = made
 made-still old new (deliveries.Moved at) stays made = absurd (stays at refl)
 
--- what was told is done
+-- what was reported is done
 pub made-done : (old new : PartsView) (next : Delivery (Local × Channel)) (answer : Delivery Pick) → IsLocated old.view.lines next
     → answer ≡ pick_of old.view.lines next → IsMade old next new → IsDone old answer new
 made-done old new deliveries.Nothing (deliveries.Moved pick) there is made = cc

@@ -1,4 +1,4 @@
--- What the next delivery of a class answers, by what is best to be done.
+-- What the next delivery of a class returns, by what is best to be done.
 use Rattle.std.proofs.Common.{◌≡◌, ◌<◌, ◌⊎◌, refl, sym, ap, subst, inl, inr}
 use Rattle.std.specs.Prelude.{IsTrue, Some}
 use Rattle.address_map.specs.Locator.{line_at, local_at}

@@ -422,7 +422,7 @@ line-there v lines local shaped same within =
     let are = shaped.lines in
     omega (arith, many, are, within)
 
--- ---- a line with a message that can be moved stands in the ring
+-- ---- a line with a message that can be moved is in the ring
 
 listed-place : (ring : List ℕ) (line : ℕ) → is_listed ring line ≡ true
     → (place : ℕ) × (slice_get ring place ≡ Some line)

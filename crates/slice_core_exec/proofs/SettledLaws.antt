@@ -1,4 +1,4 @@
--- How many targets are performed: as many as entries are logged, and no more than wait.
+-- The number of targets performed: it is the number of entries logged, and at most the number of those that wait.
 use Rattle.std.proofs.Common.{◌≡◌, ◌∙◌, ℕ, ◌-◌, ◌≤◌, ◌++◌, Bool, false, subst, List, [], ◌∷◌, length, refl, ap, arith}
 use Rattle.std.proofs.lemmas.List.{length-take}
 use Rattle.slice_core_cache.proofs.Allowed.{take-front_loads}

@@ -1,4 +1,4 @@
--- A copy for which a message is taken stands in the array or the write-back buffer.
+-- A copy for which a message is taken is in the array or the write-back buffer.
 use Rattle.std.proofs.Common.{ℕ, zero, suc, ◌<◌, List, [], ◌∷◌, length, get_or, arith, ◌≡◌, ◌⊎◌, ◌∙◌, ap, inl, inr}
 use Rattle.std.proofs.Common.{Option, Some, None, IsSome, refl}
 use Rattle.address_map.specs.declared.address.Local.{Local}

@@ -130,7 +130,7 @@ module _ (v : View) (local : Local) (all : List Channel) (next one : Delivery (L
 -- ---- the lines of the ring, one after another
 
 -- Nothing that was looked at moves; what is next of all lines is the better of this and what is next of those that are
--- left; and so many lines were looked at.
+-- left; and `index` lines were looked at.
 pub record IsTurnSoFar (v : View) (class : Class) (ring : List ℕ) (next : Delivery (Local × Channel)) (index : ℕ) : Type 0 where
   pub still : is_move next ≡ false
   pub split : next_in v class ring ≡ better_of next (next_in v class (drop index ring))

@@ -1,4 +1,4 @@
--- The lines of which a core has a copy, by where the copies stand.
+-- The lines that a core has a copy of, by where the copies are.
 use Rattle.std.specs.Prelude.{◌-◌, List, [], length, map, slice_get, Option, Some, None}
 use Rattle.address_map.specs.Locator.{line_at, local_at}
 use Rattle.address_map.specs.declared.address.CoreId.{CoreId}

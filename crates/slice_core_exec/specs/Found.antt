@@ -1,4 +1,4 @@
--- What comes of what is to be delivered next.
+-- The effect of what is to be delivered next.
 use Rattle.std.specs.Prelude.{◌≡◌, ◌<◌, Some}
 use Rattle.address_map.specs.Locator.{Lines, line_at, local_at}
 use Rattle.slice_answer.specs.declared.answer.Delivered.TheVariants as delivered

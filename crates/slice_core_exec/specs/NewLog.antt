@@ -1,4 +1,4 @@
--- What a quiet slice leaves of itself where it begins a new log.
+-- A quiet slice after it has begun a new log.
 use Rattle.std.specs.Prelude.{ℕ, ◌*◌, ◌/◌, ◌%◌, List, [], length, map}
 use Rattle.std.specs.List.{range_with_len}
 use Rattle.address_map.specs.Locator.{word_at}

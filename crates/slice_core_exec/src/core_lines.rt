@@ -1,6 +1,6 @@
 use address_map::LineAddr;
 
-/// Some of the lines of which a core has a copy, by where the copies stand.
+/// Some of the lines that a core has a copy of, by where the copies are.
 #[derive(Clone, Copy, Debug, PartialEq, Eq)]
 pub enum CoreLines {
     /// Those that are waited for, in the order of their miss registers.

@@ -20,7 +20,7 @@ use Rattle.slice_answer.specs.declared.answer.Refused.{Refused}
 use Rattle.slice_log.specs.declared.entry.Numbered.{Numbered}
 use Rattle.slice_core_spec.specs.Decision.{decision_of}
 pub use Rattle.slice_core_spec.specs.Delivery.{Moves, Settles, filled_by, core_of, AfterPlan, local_in, AfterDelivery}
-pub use Rattle.slice_core_spec.specs.Eviction.{AfterEvict}
+pub use Rattle.slice_core_spec.specs.Eviction.{AfterEvict, AfterEvictAt, AfterEvicted}
 use Rattle.slice_core_spec.specs.Hit.{AfterHit}
 use Rattle.address_map.specs.Place.{counters_of, init_of}
 use Rattle.slice_core_spec.specs.Initial.{AreInitialEntries, AreNewCaches}
@@ -137,13 +137,16 @@ IsDecided v core request (decisions.Refuse refused) = Unit {0}
 IsDecided v core request (decisions.Access local access) =
     (local.0 < v.lines.lines) × (request.tag < 64) × IsWithin (cache_at v core) local request.tag access
 
+-- What a request answers and leaves, by what is decided of it.
+abbrev pub AfterDecision : Decision → PartsView → CoreId → Request → Result Issue Refused → PartsView → Type 0
+AfterDecision (decisions.Refuse refused) old core request answer new = (answer ≡ Err refused) × (new ≡ old)
+AfterDecision (decisions.Access local access) old core request answer new =
+    AfterAccess access old core request local answer new
+
 -- What an issue answers and leaves.
 abbrev pub AfterIssue : PartsView → CoreId → Request → Result Issue Refused → PartsView → Type 0
-AfterIssue old core request answer new = by_decision (decision_of old.view core request)
-  where
-    by_decision : Decision → Type 0
-    by_decision (decisions.Refuse refused) = (answer ≡ Err refused) × (new ≡ old)
-    by_decision (decisions.Access local access) = AfterAccess access old core request local answer new
+AfterIssue old core request answer new =
+    AfterDecision (decision_of old.view core request) old core request answer new
 
 -- ---- the next delivery
 

@@ -30,21 +30,23 @@ after_evict v core local =
     after_request (with_cache v core (caches.after_evict (cache_at v core) local)) core local
     (caches.put_of (array_copy (cache_at v core) local))
 
--- What an eviction of a line answers and leaves: a line that isn't the slice's is not held. The directory is told, so
--- the line comes into the ring.
-abbrev pub AfterEvict : PartsView → CoreId → LineAddr → Evicted → PartsView → Type 0
-AfterEvict old core line answer new = by_line (local_at old.view.lines line.0)
-  where
-    by_answer : Local → Evicted → Type 0
-    by_answer local evictions.Evicting =
-        new
-        ≡ record old {
-          view = after_evict old.view core local;
-          stats = after_eviction old.stats core;
-          ring = with_listed old.ring local.0;
-        }
-    by_answer local _ = new ≡ old
+-- What an eviction of a line of the slice leaves, by its answer. The directory is told, so the line comes into the ring.
+abbrev pub AfterEvicted : Evicted → PartsView → CoreId → Local → PartsView → Type 0
+AfterEvicted evictions.Evicting old core local new =
+    new
+    ≡ record old {
+      view = after_evict old.view core local;
+      stats = after_eviction old.stats core;
+      ring = with_listed old.ring local.0;
+    }
+AfterEvicted _ old core local new = new ≡ old
 
-    by_line : Option Local → Type 0
-    by_line None = (answer ≡ evictions.NotHeld) × (new ≡ old)
-    by_line (Some local) = (answer ≡ evicted_of (cache_at old.view core) local) × by_answer local answer
+-- What an eviction answers and leaves, by the line's place: one that isn't the slice's is not held.
+abbrev pub AfterEvictAt : Option Local → PartsView → CoreId → Evicted → PartsView → Type 0
+AfterEvictAt None old core answer new = (answer ≡ evictions.NotHeld) × (new ≡ old)
+AfterEvictAt (Some local) old core answer new =
+    (answer ≡ evicted_of (cache_at old.view core) local) × AfterEvicted answer old core local new
+
+-- What an eviction of a line answers and leaves.
+abbrev pub AfterEvict : PartsView → CoreId → LineAddr → Evicted → PartsView → Type 0
+AfterEvict old core line answer new = AfterEvictAt (local_at old.view.lines line.0) old core answer new

@@ -4,18 +4,15 @@ use Rattle.address_map.specs.Locator.{local_at}
 use Rattle.address_map.specs.declared.address.CoreId.{CoreId}
 use Rattle.address_map.specs.declared.address.LineAddr.{LineAddr}
 use Rattle.address_map.specs.declared.address.Local.{Local}
-use Rattle.slice_answer.specs.Stats.{after_eviction}
 use Rattle.slice_answer.specs.declared.answer.Evicted.{Evicted}
 use Rattle.slice_answer.specs.declared.answer.Evicted.TheVariants as evictions
-use Rattle.slice_core_cache.specs.Access.{evicted_of}
 use Rattle.slice_core_cache.specs.CoreCache.{CoreCacheView}
 use Rattle.slice_core_cache.specs.Steps as caches
 use Rattle.slice_core_theory.proofs.Kept.{kept-of, leads-same, same-view}
 use Rattle.slice_core_theory.specs.Shows.{Leads}
-use Rattle.slice_core_spec.specs.Calls.{PartsView, AfterEvict}
+use Rattle.slice_core_spec.specs.Calls.{PartsView, AfterEvict, AfterEvictAt, AfterEvicted}
 use Rattle.slice_core_spec.specs.Steps.{after_evict}
 use Rattle.slice_core_spec.specs.View.{cache_at}
-use Rattle.slice_queues.specs.Ring.{with_listed}
 
 module _ (old : PartsView) (core : CoreId) (line : LineAddr) (answer : Evicted) (new : PartsView)
     (known : core.0 < length old.view.caches) where
@@ -24,23 +21,7 @@ module _ (old : PartsView) (core : CoreId) (line : LineAddr) (answer : Evicted) 
       subst (λ (p : PartsView). Leads [] old.view p.view) (sym is)
       (leads-same old.view old.view (same-view old.view))
 
-  -- what is left of the slice, by the answer
-  abbrev by_answer : Local → Evicted → Type 0
-  by_answer local evictions.Evicting =
-      new
-      ≡ record old {
-        view = after_evict old.view core local;
-        stats = after_eviction old.stats core;
-        ring = with_listed old.ring local.0;
-      }
-  by_answer local _ = new ≡ old
-
-  -- what an eviction answers and leaves, by the line's place
-  abbrev by_line : Option Local → Type 0
-  by_line None = (answer ≡ evictions.NotHeld) × (new ≡ old)
-  by_line (Some local) = (answer ≡ evicted_of (cache_at old.view core) local) × by_answer local answer
-
-  answered : (local : Local) (given : Evicted) → by_answer local given → Leads [] old.view new.view
+  answered : (local : Local) (given : Evicted) → AfterEvicted given old core local new → Leads [] old.view new.view
   answered local evictions.Evicting done =
       let cache = caches.after_evict (cache_at old.view core) local in
       subst (λ (p : PartsView). Leads [] old.view p.view) (sym done)
@@ -55,7 +36,7 @@ module _ (old : PartsView) (core : CoreId) (line : LineAddr) (answer : Evicted) 
   answered local evictions.NotHeld done = unchanged done
   answered local evictions.WriteBackFull done = unchanged done
 
-  placed : (place : Option Local) → by_line place → Leads [] old.view new.view
+  placed : (place : Option Local) → AfterEvictAt place old core answer new → Leads [] old.view new.view
   placed None done = unchanged done.1
   placed (Some local) done = answered local answer done.1
 

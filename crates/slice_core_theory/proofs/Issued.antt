@@ -30,6 +30,7 @@ use Rattle.slice_core_theory.proofs.Requests.{word_at_offset}
 use Rattle.slice_core_theory.specs.SmallMachine.{Asked, accept, hand, perform}
 use Rattle.slice_core_theory.specs.Shows.{IsAccounted, Leads, request_of_target, issue_steps, next_of}
 use Rattle.slice_core_spec.specs.Decision.{decision_of}
+use Rattle.slice_core_spec.specs.Calls.{AfterDecision}
 use Rattle.slice_core_spec.specs.Calls.{PartsView, target_for, AfterAccepting, AfterAccess, AfterIssue, IsAccepted}
 use Rattle.slice_core_spec.specs.Calls.{LacksMemory}
 use Rattle.slice_core_spec.specs.Steps.{after_hit, after_join, after_open, is_held, with_way}
@@ -192,12 +193,8 @@ module _ (old : PartsView) (core : CoreId) (request : Request) (answer : Result 
   accessed local (access_kinds.PrimaryMiss state ask way) is done =
       with_memory local (access_kinds.PrimaryMiss state ask way) is done
 
-  -- what an issue answers and leaves, by what was decided
-  abbrev by_decision : Decision → Type 0
-  by_decision (decisions.Refuse why) = (answer ≡ Err why) × (new ≡ old)
-  by_decision (decisions.Access local access) = AfterAccess access old core request local answer new
-
-  decided : (decision : Decision) → decision_of old.view core request ≡ decision → by_decision decision
+  decided : (decision : Decision) → decision_of old.view core request ≡ decision
+      → AfterDecision decision old core request answer new
       → LeadsBy answer new
   decided (decisions.Refuse why) is done = refused why done.0 done.1
   decided (decisions.Access local access) is done =

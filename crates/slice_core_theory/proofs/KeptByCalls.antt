@@ -1,6 +1,6 @@
 -- What each access keeps is kept by each call: a request, an eviction, and a reply that is handed out.
 use Rattle.std.proofs.Common.{◌≡◌, ℕ, ◌<◌, ◌⊎◌, ◌/◌, ◌%◌, Bool, true, false, if◌then◌else◌, length, Option, Some, None}
-use Rattle.std.proofs.Common.{Result, Err, ⊎_elim, refl, sym, ap, ◌∙◌, subst}
+use Rattle.std.proofs.Common.{Result, ⊎_elim, refl, sym, ap, ◌∙◌, subst}
 use Rattle.std.specs.Prelude.{◌==◌, ◌&&◌, nat_lt, not}
 use Rattle.std.proofs.lemmas.Bool.{and_parts, ltb-true}
 use Rattle.address_map.specs.Locator.{Lines, is_past, local_at}
@@ -10,7 +10,6 @@ use Rattle.address_map.specs.declared.address.LineAddr.{LineAddr}
 use Rattle.address_map.specs.declared.address.Local.{Local}
 use Rattle.address_map.specs.declared.request.Request.{Request}
 use Rattle.cache_array.specs.Array.{held_at as array_at}
-use Rattle.slice_answer.specs.Stats.{after_eviction}
 use Rattle.slice_answer.specs.declared.answer.Evicted.{Evicted}
 use Rattle.slice_answer.specs.declared.answer.Evicted.TheVariants as evictions
 use Rattle.slice_answer.specs.declared.answer.Issue.{Issue}
@@ -30,14 +29,13 @@ use Rattle.slice_core_theory.proofs.Steps.{KeepsAccesses}
 use Rattle.slice_core_theory.proofs.Victims.{has_victim_for}
 use Rattle.slice_core_theory.specs.Whole.{IsWhole}
 use Rattle.slice_core_spec.specs.Decision.{decision_at, decision_of, is_counter, overwrites}
+use Rattle.slice_core_spec.specs.Calls.{AfterDecision, AfterEvictAt, AfterEvicted}
 use Rattle.slice_core_spec.specs.Calls.{PartsView, target_for, AfterAccepting, AfterAccess, AfterEvict, AfterHand}
 use Rattle.slice_core_spec.specs.Calls.{AfterIssue, IsAccepted, LacksMemory}
-use Rattle.slice_core_spec.specs.Steps.{after_evict}
 use Rattle.slice_core_spec.specs.View.{View, cache_at}
 use Rattle.slice_core_spec.specs.declared.decision.Decision.{Decision}
 use Rattle.slice_core_spec.specs.declared.decision.Decision.TheVariants as decisions
 use Rattle.slice_log.specs.declared.entry.Numbered.{Numbered}
-use Rattle.slice_queues.specs.Ring.{with_listed}
 
 -- A line that has a place among the slice's own is one of them.
 pub located : (own : Lines) (line : ℕ) (local : Local) → local_at own line ≡ Some local → local.0 < own.lines
@@ -55,8 +53,8 @@ located own line local =
 
 module _ (v : View) (core : CoreId) (request : Request) (local : Local) (access : AccessKind) where
   -- An access that was decided is to a line of the slice, and is as the core's state says.
-  abbrev IsDecided : Type 0
-  IsDecided =
+  abbrev pub IsAccessTo : Type 0
+  IsAccessTo =
       (local.0 < v.lines.lines) × (access_of (cache_at v core) local request.tag request.op ≡ access)
       × (local_at v.lines (line_of request.word).0 ≡ Some local)
 
@@ -65,7 +63,7 @@ module _ (v : View) (core : CoreId) (request : Request) (local : Local) (access 
       → (if range then decisions.Refuse refusals.TagRange else if busy then decisions.Refuse refusals.TagBusy
       else if counter then decisions.Refuse refusals.CounterStore
       else decisions.Access here (access_of (cache_at v core) here request.tag request.op))
-      ≡ decisions.Access local access → IsDecided
+      ≡ decisions.Access local access → IsAccessTo
   decided-line here inside found true busy counter is = absurd (cc is)
   decided-line here inside found false true counter is = absurd (cc is)
   decided-line here inside found false false true is = absurd (cc is)
@@ -83,14 +81,14 @@ module _ (v : View) (core : CoreId) (request : Request) (local : Local) (access 
 
   decided-place : (past : Bool) (place : Option Local) → local_at v.lines (line_of request.word).0 ≡ place
       → (if past then decisions.Refuse refusals.OutOfRange else by_place place) ≡ decisions.Access local access
-      → IsDecided
+      → IsAccessTo
   decided-place true place found is = absurd (cc is)
   decided-place false None found is = absurd (cc is)
   decided-place false (Some here) found is =
       decided-line here (located v.lines (line_of request.word).0 here found) found (not (nat_lt request.tag 64))
       (not (is_free (tag_at (cache_at v core) request.tag))) (overwrites request.op && is_counter v request.word) is
 
-  decided : decision_of v core request ≡ decisions.Access local access → IsDecided
+  pub decided : decision_of v core request ≡ decisions.Access local access → IsAccessTo
   decided is =
       decided-place (is_past v.lines request.word) (local_at v.lines (line_of request.word).0) refl is
 
@@ -101,7 +99,7 @@ module _ (Whole Fact : View → Type 0) (steps : KeepsAccesses Whole Fact) (old 
   unchanged same = subst (λ (p : PartsView). Fact p.view) (sym same) all
 
   -- An access that is accepted, where the log has room.
-  accepted : (local : Local) (access : AccessKind) → IsDecided old.view core request local access → (room : ℕ)
+  accepted : (local : Local) (access : AccessKind) → IsAccessTo old.view core request local access → (room : ℕ)
       (issue : Issue) → AfterAccepting access (record old { room = room }) core request local issue new
       → Fact new.view
   accepted local (access_kinds.Stall stall) is room issue after =
@@ -127,12 +125,12 @@ module _ (Whole Fact : View → Type 0) (steps : KeepsAccesses Whole Fact) (old 
       row.1 victim row.0 after.1 all)
 
   -- Where memory for the log is lacking, nothing changed.
-  with_memory : (local : Local) (access : AccessKind) → IsDecided old.view core request local access
+  with_memory : (local : Local) (access : AccessKind) → IsAccessTo old.view core request local access
       → LacksMemory old answer new ⊎ IsAccepted access old core request local answer new → Fact new.view
   with_memory local access is after =
       ⊎_elim (λ lacks. unchanged lacks.unchanged) (λ done. accepted local access is done.0 done.1 done.5) after
 
-  accessed : (local : Local) (access : AccessKind) → IsDecided old.view core request local access
+  accessed : (local : Local) (access : AccessKind) → IsAccessTo old.view core request local access
       → AfterAccess access old core request local answer new → Fact new.view
   accessed local (access_kinds.Stall stall) is after = subst (λ (p : PartsView). Fact p.view) (sym after.1) all
   accessed local (access_kinds.Hit way next silent) is after =
@@ -141,12 +139,8 @@ module _ (Whole Fact : View → Type 0) (steps : KeepsAccesses Whole Fact) (old 
   accessed local (access_kinds.PrimaryMiss next ask placement) is after =
       with_memory local (access_kinds.PrimaryMiss next ask placement) is after
 
-  -- what an issue answers and leaves, by what was decided
-  abbrev by_decision : Decision → Type 0
-  by_decision (decisions.Refuse refused) = (answer ≡ Err refused) × (new ≡ old)
-  by_decision (decisions.Access local access) = AfterAccess access old core request local answer new
-
-  issued : (decision : Decision) → decision_of old.view core request ≡ decision → by_decision decision
+  issued : (decision : Decision) → decision_of old.view core request ≡ decision
+      → AfterDecision decision old core request answer new
       → Fact new.view
   issued (decisions.Refuse refused) is after = unchanged after.1
   issued (decisions.Access local access) is after =
@@ -164,24 +158,8 @@ module _ (Whole Fact : View → Type 0) (steps : KeepsAccesses Whole Fact) (old 
   stays : new ≡ old → Fact new.view
   stays same = subst (λ (p : PartsView). Fact p.view) (sym same) all
 
-  -- what is left of the slice, by the answer
-  abbrev by_answer : Local → Evicted → Type 0
-  by_answer local evictions.Evicting =
-      new
-      ≡ record old {
-        view = after_evict old.view core local;
-        stats = after_eviction old.stats core;
-        ring = with_listed old.ring local.0;
-      }
-  by_answer local _ = new ≡ old
-
-  -- what an eviction answers and leaves, by the line's place
-  abbrev by_line : Option Local → Type 0
-  by_line None = (answer ≡ evictions.NotHeld) × (new ≡ old)
-  by_line (Some local) = (answer ≡ evicted_of (cache_at old.view core) local) × by_answer local answer
-
   answered : (local : Local) (given : Evicted) → given ≡ evicted_of (cache_at old.view core) local
-      → by_answer local given → Fact new.view
+      → AfterEvicted given old core local new → Fact new.view
   answered local evictions.Evicting is after =
       let cache = cache_at old.view core in
       let leaves = can_leave cache local (sym is) in
@@ -192,7 +170,7 @@ module _ (Whole Fact : View → Type 0) (steps : KeepsAccesses Whole Fact) (old 
   answered local evictions.NotHeld is after = stays after
   answered local evictions.WriteBackFull is after = stays after
 
-  placed : (place : Option Local) → by_line place → Fact new.view
+  placed : (place : Option Local) → AfterEvictAt place old core answer new → Fact new.view
   placed None after = stays after.1
   placed (Some local) after = answered local answer after.0 after.1
 

@@ -1,4 +1,4 @@
--- A line that is lent, once and again.
+-- A line that is borrowed once and then again.
 use Rattle.std.proofs.Common.{◌≡◌, ℕ, ◌<◌, ◌++◌, if◌then◌else◌, Bool, true, false, List, [], ◌∷◌, length, refl, ap, ◌∙◌}
 use Rattle.std.proofs.Common.{eq-eqb}
 use Rattle.std.specs.Prelude.{eqb}
@@ -25,7 +25,7 @@ is_listed-with_listed order local = by_test (is_listed order local) refl
 pub with_listed-there : (order : List ℕ) (local : ℕ) → is_listed order local ≡ true → with_listed order local ≡ order
 with_listed-there order local there = rw there refl
 
--- lent twice, a line is as it was left the second time
+-- borrowed twice, a line is as it was left the second time
 pub with_lent-twice : (queues : QueuesView) (local : Local) (first second : LineChannels) →
     with_lent (with_lent queues local first) local second ≡ with_lent queues local second
 with_lent-twice queues local first second =
@@ -35,12 +35,12 @@ with_lent-twice queues local first second =
     ap (λ lines. slice lines (with_listed ring local.0)) (set-set queues.channels.lines local.0 first second)
     ∙ ap (slice _) (with_listed-there ring local.0 (is_listed-with_listed queues.ring local.0))
 
--- a line that was lent is as it was left
+-- a line that was borrowed is as it was left
 pub at_local-lent : (queues : QueuesView) (local : Local) (line : LineChannels) →
     local.0 < length queues.channels.lines → at_local (with_lent queues local line).channels local.0 ≡ line
 at_local-lent queues local line there = get_or-set_same queues.channels.lines local.0 line (empty_line 0) there
 
--- a line that was lent is changed once more
+-- a line that was borrowed is changed once more
 pub lent_again : (old first : QueuesView) (local : Local) (line : LineChannels) (change : LineChannels → LineChannels) →
     local.0 < length old.channels.lines → first ≡ with_lent old local line →
     with_lent first local (change (at_local first.channels local.0)) ≡ with_lent old local (change line)
@@ -49,7 +49,7 @@ lent_again old first local line change there is =
     ∙ ap (λ now. with_lent (with_lent old local line) local (change now)) (at_local-lent old local line there)
     ∙ with_lent-twice old local line (change line)
 
--- what is read of a line that was lent
+-- what is read of a line that was borrowed
 pub read-lent : (old first : QueuesView) (local : Local) (line : LineChannels) →
     local.0 < length old.channels.lines → first ≡ with_lent old local line →
     at_local first.channels local.0 ≡ line

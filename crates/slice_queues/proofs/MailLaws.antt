@@ -421,7 +421,7 @@ any-marked cores mail marked = by_marks (all_marked mail) refl (list_any has_mes
         let clash : false ≡ true = sym none ∙ there in cc
     by_marks (suc marks) is true there = some marks
 
--- so the marks and the block on its way home tell whether the line has mail
+-- so the marks and the block on its way home say whether the line has a message
 pub shows_mail-is : (line : LineChannels) (head : LineHead) → IsMarked line.cores head.mail →
     head.home ≡ line.home → shows_mail head ≡ has_mail line
 shows_mail-is line head marked home =

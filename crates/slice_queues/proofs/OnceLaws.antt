@@ -1,4 +1,4 @@
--- A line's waiting channels: each stands in the list once, and no other does.
+-- A line's waiting channels: each is in the list once, and no other is.
 use Rattle.std.proofs.Common.{◌≡◌, ◌≢◌, ℕ, ◌+◌, ◌<◌, ◌≤◌, ◌==◌, Bool, true, false, cond, if◌then◌else◌, List, [], ◌∷◌}
 use Rattle.std.proofs.Common.{◌++◌, length, map, filter, sum_by, count_by, zero, suc, refl, ap, sym, ◌∙◌, arith, inl}
 use Rattle.std.proofs.Common.{inr, get_or, is_some, nat_lt, ◌&&◌, lt-ltb, le-ltb, eq-eqb, Option, Some, None, add-zero}
@@ -20,7 +20,7 @@ use Rattle.slice_queues.specs.Waiting.{req_of, fwd_of, data_of, acks_to, acks_at
 use Rattle.slice_queues.specs.Waiting.{is_same_channel, is_waiting, is_from_core, HasEachOnce}
 use Rattle.address_map.proofs.CoreSets.{has-zero}
 
--- how often a channel stands in a list
+-- how often a channel occurs in a list
 abbrev pub times : Channel → List Channel → ℕ
 times channel names = count_by (is_same_channel channel) names
 
@@ -163,7 +163,7 @@ times-no_home : (channel : Channel) (waits : Bool) → is_same_channel channel c
 times-no_home channel true differs = count-no (is_same_channel channel) channels.Home [] differs
 times-no_home channel false differs = refl
 
--- an acknowledgement is told by its receiver and its sender
+-- an acknowledgement is identified by its receiver and its sender
 times-acks : (to from : CoreId) (core set : ℕ) →
     times (channels.Ack to from) (acks_to core (members set))
     ≡ (if to.0 == core then (if nat_lt from.0 64 && has set from.0 then 1 else 0) else 0)
@@ -249,7 +249,7 @@ times-line channel line h d a f r x of_home of_data of_acks of_forwarded of_requ
     requests : List Channel
     requests = map req_of (cores_where has_request line)
 
--- a channel stands once among a line's waiting channels where a message waits in it, and else not at all
+-- a channel occurs once among a line's waiting channels where a message waits in it, and else not at all
 pub times-line_waiting : (line : LineChannels) (channel : Channel) →
     times channel (line_waiting line) ≡ (if is_from_core channel && is_waiting line channel then 1 else 0)
 times-line_waiting line (channels.Req d) =

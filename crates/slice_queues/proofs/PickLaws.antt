@@ -1,4 +1,4 @@
--- A slice's waiting picks: each stands in the list once, and no other does.
+-- A slice's waiting picks: each is in the list once, and no other is.
 use Rattle.std.proofs.Common.{◌≡◌, ◌≢◌, ℕ, ◌+◌, ◌*◌, ◌/◌, ◌%◌, ◌<◌, ◌≤◌, ◌==◌, ◌&&◌, Bool, true, false, cond}
 use Rattle.std.proofs.Common.{if◌then◌else◌, List, [], ◌∷◌, ◌++◌, length, map, take, drop, sum_by, count_by, zero, suc}
 use Rattle.std.proofs.Common.{refl, ap, sym, ◌∙◌, arith, inl, inr, get_or, eq-eqb, append_assoc, add-zero, zero-add}
@@ -19,7 +19,7 @@ use Rattle.slice_queues.specs.Waiting.{lines_waiting, picks_waiting, is_same_pic
 use Rattle.slice_queues.proofs.OnceLaws.{times, count-map, count-never, and-false, times-line_waiting}
 use Rattle.slice_queues.proofs.SliceLaws.{line_of-pick_at, channel_of-pick_at}
 
--- picks of one line are told by their channels, and those of another line are other picks
+-- picks of one line are distinguished by their channels, and those of another line are other picks
 same-pick_at : (pick : Pick) (line : LineAddr) (here : Bool) → ((line_of pick).0 == line.0) ≡ here →
     (channel : Channel) →
     is_same_pick pick (pick_at line channel) ≡ (here && is_same_channel (channel_of pick) channel)
@@ -37,7 +37,7 @@ times-elsewhere pick line names apart =
     count-map (is_same_pick pick) (λ channel. false) (pick_at line) (same-pick_at pick line false apart) names
     ∙ count-never names
 
--- how often a channel stands among a line's waiting channels
+-- how often a channel occurs among a line's waiting channels
 abbrev once_if : LineChannels → Channel → ℕ
 once_if line channel = if is_from_core channel && is_waiting line channel then 1 else 0
 
@@ -64,7 +64,7 @@ count-none pick slice slices (line ∷ rest) place none =
     (times-elsewhere pick (line_number slice slices place) (line_waiting line) (ne_eqb _ _ (none place (omega arith))))
     (count-none pick slice slices rest (place + 1) (λ i from. none i (omega arith))) refl
 
--- a pick of the line that stands `behind` places further on
+-- a pick of the line that is `behind` places further on
 count-one : (pick : Pick) (slice slices at : ℕ) →
     (line_of pick).0 ≡ at * slices + slice → ((i : ℕ) → (line_of pick).0 ≡ i * slices + slice → i ≡ at) →
     (lines : List LineChannels) (place behind : ℕ) → at ≡ place + behind →
@@ -105,7 +105,7 @@ lines_waiting-split slice slices (suc n) (line ∷ rest) place =
     (λ p. (first ++ lines_waiting slice slices (place + 1) (take n rest)) ++ lines_waiting slice slices p (drop n rest))
     next
 
--- round and round from any line, a pick stands as often as from the first line to the last
+-- round and round from any line, a pick occurs as often as from the first line to the last
 count-round : (pick : Pick) (queues : SliceChannels) (start : LineAddr) →
     count_by (is_same_pick pick) (picks_waiting queues start)
     ≡ count_by (is_same_pick pick) (lines_waiting queues.slice queues.slices 0 queues.lines)
@@ -124,7 +124,7 @@ count-round pick queues start =
     turned : (a b : ℕ) → a + b ≡ b + a
     turned a b = omega arith
 
--- each pick at which a message waits stands once among those from a slice's first line to its last, and no other does
+-- each pick at which a message waits is once among those from a slice's first line to its last, and no other does
 pub lines_waiting-once : (queues : SliceChannels) → queues.slice < queues.slices →
     HasEachPickOnce queues (lines_waiting queues.slice queues.slices 0 queues.lines)
 lines_waiting-once queues one pick =

@@ -45,7 +45,7 @@ IsOrder-from_round order listed capacity round = record {
 pub length-order : (order : List ℕ) (lines : ℕ) → IsOrder order lines → length order ≤ lines
 length-order order lines is = length-le_from_distinct_below order lines is.once is.there
 
--- a round in which no line stands
+-- an empty round
 pub IsRound-empty : (lines : ℕ) → IsRound [] (replicate lines false) lines
 unfolding IsDistinct
 IsRound-empty lines = record {
@@ -91,7 +91,7 @@ IsRound-push order listed capacity local round there apart = record {
               ∙ sym (list_any-append (eqb other) order (local ∷ []) ∙ rw (ne_eqb other local differs) (or-false _))
         ]
 
--- the first line of a round doesn't stand in the rest of it
+-- the first line of a round isn't in the rest of it
 apart-first : (first : ℕ) (order : List ℕ) → IsDistinct eqb (first ∷ order) → list_any (eqb first) order ≡ false
 apart-first first order once = none order (IsDistinct-head eqb first order once)
   where
@@ -158,7 +158,7 @@ pushed-items order listed local old new is round pushed =
     ∙ ap (λ xs. buffer (keep_last old.capacity (xs ++ local ∷ [])) old.capacity) is
     ∙ ap (λ xs. buffer xs old.capacity) (keep-room old.capacity (order ++ local ∷ []) few)
 
--- a line that was pushed stands at the end of what contracts see
+-- a line that was pushed is at the end of what contracts see
 pub listed-view : (order : List ℕ) (listed : List Bool) (local capacity : ℕ) (new : Buffer ℕ) →
     new ≡ buffer (order ++ local ∷ []) capacity → is_listed order local ≡ false →
     record { order = new.items; lines = length (set listed local true) }
@@ -225,7 +225,7 @@ turned-view order lines capacity first new stays at_front is on =
     front [] e = cc
     front (line ∷ order) e = cc
 
--- a turn of the ring goes on with what earlier turns left
+-- a turn of the ring continues what earlier turns left
 pub rotate-step : (mail : ℕ → Bool) (ring now : List ℕ) (turn : ℕ) (stays : Bool) → turn < length ring →
     now ≡ drop turn ring ++ filter mail (take turn ring) → stays ≡ mail (get_or now 0 0) →
     drop 1 now ++ (if stays then take 1 now else []) ≡ drop (turn + 1) ring ++ filter mail (take (turn + 1) ring)
@@ -244,7 +244,7 @@ rotate-step mail ring now turn stays within is says =
     ∙ append_assoc (drop (turn + 1) ring) kept (if mail first then first ∷ [] else [])
     ∙ ap (λ (xs : List ℕ). drop (turn + 1) ring ++ xs) (sym (filter_more mail ring turn 0 within))
 
--- a line that doesn't stand in the ring after a turn stood in it no more than then, or left it for want of mail
+-- a line that isn't in the ring after a turn wasn't in it before, or left it as it has no message
 turned-quiet : (mail : ℕ → Bool) (order : List ℕ) (stays : Bool) (local : ℕ) →
     stays ≡ mail (get_or order 0 0) → (is_listed order local ≡ false → mail local ≡ false) →
     is_listed (drop 1 order ++ (if stays then take 1 order else [])) local ≡ false → mail local ≡ false
@@ -266,7 +266,7 @@ turned-quiet mail (first ∷ order) stays local says quiet apart =
         sym apart ∙ ap (λ b. is_listed (order ++ (if b then first ∷ [] else [])) local) still ∙ listed in
         cc
 
--- after a turn a line that doesn't stand in the ring has no message
+-- after a turn a line that isn't in the ring has no message
 pub IsQueues-turn : (lines : List LineChannels) (ring new : LineOrder) (own : Lines) (first : LineChannels)
     (stays : Bool) →
     first ≡ get_or lines (get_or ring.order 0 0) (empty_line 0) → stays ≡ has_mail first →
@@ -281,7 +281,7 @@ IsQueues-turn lines ring new own first stays line says is queues = record {
       (says ∙ ap has_mail line) (queues.quiet local) (sym (ap (λ r. is_listed r.order local) is) ∙ apart);
 }
 
--- a line that doesn't stand in the ring with one more line is another, and stood in no ring before
+-- a line that isn't in the ring with one more line is another line, and wasn't in the ring before
 apart-listed : (order : List ℕ) (local other : ℕ) → is_listed (with_listed order local) other ≡ false →
     (other ≢ local) × (is_listed order other ≡ false)
 apart-listed order local other = by_test (is_listed order local) refl
@@ -302,7 +302,7 @@ apart-listed order local other = by_test (is_listed order local) refl
           split.0,
         )
 
--- a line that is lent stands in the ring
+-- a line that is borrowed is in the ring
 pub IsQueues-lent : (lines : List LineChannels) (ring new : LineOrder) (own : Lines) (local : ℕ) (line : LineChannels) →
     new ≡ record ring { order = with_listed ring.order local } → IsQueues lines ring own →
     IsQueues (set lines local line) new own

@@ -441,7 +441,7 @@ lines-sent heads cores width capacity local core old head new there read within 
     }
     by_test false none same line runs = opened none same line runs
 
--- what stands where a core's channels of a line stand, once the line has its own run
+-- what is read at the place of a core's channels, once the line has its own run
 pub read-opened : (heads : List LineHead) (cores : List CoreChannels) (width capacity core : ℕ) (head : LineHead)
     (none : CoreChannels) →
     core < width → IsRuns heads cores width capacity →
@@ -576,7 +576,7 @@ core-within heads cores width local core there =
     length-take-most (suc n) [] = omega arith
     length-take-most (suc n) (x ∷ xs) = let rest = length-take-most n xs in omega (arith, rest)
 
--- the channels of a core, as they are read where it is told to stand
+-- the channels of a core, as they are read at the place given for them
 pub read-core : (heads : List LineHead) (cores more : List CoreChannels) (width capacity local core place : ℕ)
     (old : LineHead) (queues : CoreChannels) (lines : List LineChannels) →
     lines_under width cores heads ≡ lines → IsRuns heads cores width capacity → local < length lines →
@@ -610,7 +610,7 @@ line-seen heads cores width local old lines view there read =
     ∙ line-read width cores heads local below
     ∙ ap (line_under width cores) (sym (read ∙ read_default heads local old blank_head below))
 
--- a core's channels change where they are told to stand
+-- a core's channels change at the place given for them
 pub lines-with_core : (heads : List LineHead) (cores more : List CoreChannels)
     (width capacity new_capacity local core place : ℕ) (old opened head : LineHead) (new : CoreChannels)
     (lines : List LineChannels) →
@@ -693,7 +693,7 @@ opens heads cores width capacity local old lines view runs there read =
     subst P (sym (read ∙ read_default heads local old blank_head below))
     (runs.within local, λ none. room-left heads cores width capacity local below none runs)
 
--- a core of a line that is seen so is one of so many
+-- a core of a line that is seen so is one of `width`
 pub seen-within : (heads : List LineHead) (cores : List CoreChannels) (width local core : ℕ)
     (lines : List LineChannels) →
     lines_under width cores heads ≡ lines → core < length (get_or lines local (empty_line 0)).cores → core < width

@@ -13,13 +13,13 @@ one_where holds = if holds then 1 else 0
 abbrev pub shows_mail : LineHead → Bool
 shows_mail head = nat_lt 0 (all_marked head.mail) || is_some head.home
 
--- what holds of a line's head beside its cores' channels: their bounds, the marks, and the flag
+-- what holds of a line's head apart from its cores' channels: their bounds, the marks, and the flag
 pub record IsHead (cores : List CoreChannels) (head : LineHead) : Type 0 where
   pub within : IsWithinCores cores
   pub marked : IsMarked cores head.mail
   pub flag : head.waits ≡ has_mail (record { cores = cores; home = head.home })
 
--- each head's flag tells whether its line has a message, and so many lines have one
+-- each head's flag says whether its line has a message, and `waiting` lines have one
 pub record IsMailCounted (heads : List LineHead) (lines : List LineChannels) (waiting : ℕ) : Type 0 where
   pub flags : (local : ℕ) → (head_at heads local).waits ≡ has_mail (slice_index_or lines local (empty_line 0))
   pub counted : waiting ≡ count_by has_mail lines

@@ -14,7 +14,7 @@ is_listed lines local = list_any (eqb local) lines
 abbrev pub with_listed : List ℕ → ℕ → List ℕ
 with_listed lines local = if is_listed lines local then lines else lines ++ local ∷ []
 
--- lines of a slice of so many, each at most once
+-- places of a slice of `lines` lines, each at most once
 pub record IsOrder (order : List ℕ) (lines : ℕ) : Type 0 where
   pub once : IsDistinct eqb order
   pub there : (local : ℕ) → is_listed order local ≡ true → local < lines
@@ -24,7 +24,7 @@ pub record LineOrder : Type 0 where
   pub order : List ℕ
   pub lines : ℕ
 
--- the flags tell which lines are in the round, none twice, and there is room for every line
+-- the flags say which lines are in the round, none twice, and there is room for every line
 pub record IsRound (order : List ℕ) (listed : List Bool) (capacity : ℕ) : Type 0 where
   pub once : IsDistinct eqb order
   pub flags : (local : ℕ) → slice_index_or listed local false ≡ is_listed order local
@@ -44,7 +44,7 @@ pub record IsRing (queues : QueuesView) : Type 0 where
   pub mail : (local : ℕ) → has_mail_at queues.channels local ≡ true → is_listed queues.ring local ≡ true
   pub order : IsOrder queues.ring (length queues.channels.lines)
 
--- what holds of every slice: its lines are those of a slice of the machine, and one that doesn't stand in the ring has
+-- what holds of every slice: its lines are those of a slice of the machine, and one that isn't in the ring has
 -- no message
 pub record IsQueues (lines : List LineChannels) (ring : LineOrder) (own : Lines) : Type 0 where
   pub machine : IsOfMachine own

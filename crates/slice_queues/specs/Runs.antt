@@ -1,4 +1,4 @@
--- How the channels of a slice's lines stand: a head for each line, and runs of cores' channels.
+-- How the channels of a slice's lines are stored: a head for each line, and runs of cores' channels.
 use Rattle.std.specs.Prelude.{◌≡◌, ℕ, ◌+◌, ◌*◌, ◌<◌, ◌≤◌, ◌++◌, Bool, true, false, nat_lt, if◌then◌else◌, List}
 use Rattle.std.specs.Prelude.{length, map, take, drop, replicate, slice_index_or, count_by, None}
 use Rattle.slice_queues.specs.declared.lines.LineHead.{LineHead}
@@ -17,7 +17,7 @@ head_at heads local = slice_index_or heads local blank_head
 abbrev pub has_run : LineHead → Bool
 has_run head = nat_lt 0 head.first
 
--- the line's run, of so many cores' channels: the blank one in front where it has none of its own
+-- the line's run, of `width` cores' channels: the blank one in front where it has none of its own
 abbrev pub run_under : ℕ → List CoreChannels → LineHead → List CoreChannels
 run_under width cores head = take width (drop head.first cores)
 

@@ -107,13 +107,13 @@ is_same_channel channel other = false
 abbrev pub is_waiting : LineChannels → Channel → Bool
 is_waiting line channel = nat_lt 0 (length (messages_at line channel))
 
--- each channel in which a message waits stands in the list once, and no other does
+-- each channel in which a message waits is in the list once, and no other is
 abbrev pub HasEachOnce : LineChannels → List Channel → Type 0
 HasEachOnce line names =
     (channel : Channel) →
     count_by (is_same_channel channel) names ≡ (if is_waiting line channel then 1 else 0)
 
--- each channel of the class in which a message waits stands in the list once, and no other does
+-- each channel of the class in which a message waits is in the list once, and no other is
 abbrev pub HasEachOnceIn : Class → LineChannels → List Channel → Type 0
 HasEachOnceIn class line names =
     (channel : Channel) →
@@ -140,7 +140,7 @@ pub record IsAddressedFrom (place lines slice slices : ℕ) : Type 0 where
   pub one_of_them : slice < slices
   pub in_range : (place + lines) * slices < 2 ^ 64
 
--- the picks with a message: those of the start line first, then those of the lines after it, and at last those of the
+-- the picks with a message: those of the start line first, then those of the lines after it, and finally those of the
 -- lines before it
 abbrev pub picks_waiting : SliceChannels → LineAddr → List Pick
 picks_waiting queues start =
@@ -169,7 +169,7 @@ abbrev pub is_from_core : Channel → Bool
 is_from_core (channels.Ack to from) = nat_lt from.0 64
 is_from_core channel = true
 
--- each pick at which a message waits stands in the list once, and no other does
+-- each pick at which a message waits is in the list once, and no other is
 abbrev pub HasEachPickOnce : SliceChannels → List Pick → Type 0
 HasEachPickOnce queues picks =
     (pick : Pick) →

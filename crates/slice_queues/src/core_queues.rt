@@ -8,7 +8,7 @@ use std::marker::Model;
 /// One core's channels of a line: its request to the directory, and what waits for it.
 #[derive(Drop)]
 pub struct CoreQueues {
-    // What is small stands together, so that a look for waiting messages reads two cache lines and not three.
+    // The small fields are together, so that a look for waiting messages reads two cache lines instead of three.
     /// The senders of the acknowledgements that wait.
     pub acks: CoreSet,
     pub forwarded: ForwardedQueue,

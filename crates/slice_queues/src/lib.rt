@@ -20,10 +20,10 @@
 //! - [`LineQueues::waiting`] goes through the channels in which a message waits, each once and no other
 //!   (`HasEachOnce`), [`LineQueues::waiting_in`] through those of one class. Data come before what is forwarded, which
 //!   is often blocked until they moved. [`LineQueues::left_in`] gives the same channels as [`ChannelsLeft`], which
-//!   doesn't borrow the line: whoever takes a message stops there, and whoever doesn't asks for the next.
+//!   doesn't borrow the line: a caller that takes a message stops there, any other asks for the next.
 //! - [`Queues`] holds the lines of a slice, by their places in it, and a ring of lines (specs/Ring.antt). Every line
 //!   with a message is in the ring, and none twice ([`Queues::ring_len`] says so, `IsRing`).
-//!   What changes a line brings it into the ring (`with_lent`), so whatever is sent, that holds.
+//!   Every call that changes a line adds it to the ring (`with_lent`), so this always holds.
 //!   [`Queues::rotate`] sends the front lines with messages to the back, and the others out of the ring.
 //! - The calls of [`Queues`] that take a pick say of the slice what those of a line say of a line (specs/Slice.antt). A
 //!   pick names a line of the whole memory. [`Queues::picks_of`] goes through the lines from the first to the last,
@@ -31,7 +31,7 @@
 //!   message once and no other (`HasEachPickOnce`).
 //!
 //! All memory is taken by [`Queues::build`], the only call that can fail: 184 bytes for each core of a line, and 129
-//! for the line, of which 9 are for the ring. What is for a line's cores is touched once something is sent to the line
+//! for the line, 9 of them for the ring. What is for a line's cores is touched once something is sent to the line
 //! (specs/Runs.antt), so the largest slice, 65536 lines of 64 cores, begins with 8 MB of the 780 that it may come to. A
 //! send or a take costs the same whatever the number of lines and cores, but for the first change of a line, and so
 //! does [`LineQueues::is_empty`]: each line has a flag for that (specs/Count.antt). Four sets say for which cores

@@ -74,7 +74,7 @@ impl<'a> LineQueues<'a> {
         LineWaiting::new(self.cores, self.left_in(class))
     }
 
-    /// The same channels, of which [`LineQueues::next_left`] gives one after another.
+    /// Returns the same channels; [`LineQueues::next_left`] takes one after another from them.
     pub fn left_in(&self, class: Class) -> ChannelsLeft
         ensures order { channels_left result self.now.cores ≡ filter (is_of_class class) (line_waiting self.now) }
         ensures once { HasEachOnceIn class self.now (channels_left result self.now.cores) }

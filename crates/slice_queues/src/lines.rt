@@ -14,10 +14,10 @@ use std::alloc::{AllocError, Global};
 use std::boxed::BoxedSlice;
 use std::marker::Model;
 
-/// What a line has beside its cores' channels.
+/// What a line has apart from its cores' channels.
 #[derive(Clone, Copy)]
 pub struct LineHead {
-    // What says whether and where messages wait stands in front.
+    // The fields that say whether and where messages wait come first.
     pub mail: Mail,
     /// Where the run of its cores' channels begins, 0 as long as it has none of its own.
     pub first: usize,
@@ -30,8 +30,8 @@ pub struct LineHead {
 #[derive(Drop)]
 pub struct Lines {
     heads: BoxedSlice<LineHead>,
-    // Runs of `width` cores' channels. The first one is blank and stays so: it stands for each line to which nothing
-    // was ever sent. After it stand the runs of the other lines, in the order in which they got them. There is room
+    // Runs of `width` cores' channels. The first one is blank and stays so: it represents each line to which nothing
+    // was ever sent. After it come the runs of the other lines, in the order in which they got them. There is room
     // for a run of each line, and what isn't used of it is never touched.
     cores: Vec<CoreQueues>,
     width: usize,
@@ -72,7 +72,7 @@ impl LineHead {
         }
     }
 
-    /// Where the core's channels stand. The line has a run of its own from now on.
+    /// Returns where the core's channels are. The line has a run of its own from now on.
     #[inline(always)]
     fn place_of(&mut self, core: CoreId, cores: &mut Vec<CoreQueues>, width: usize) -> usize
         requires core { core.0 < width }
@@ -98,7 +98,7 @@ impl LineHead {
         self.mail.cores().bits() > 0 || self.home.is_some()
     }
 
-    /// A message was sent: the line is one of those that have some, of which there are so many.
+    /// Notes that a message was sent, and counts the line in `waiting` unless it had a message already.
     #[inline(always)]
     fn note_sent(&mut self, waiting: &mut usize)
         requires { self.old.waits ≡ false → waiting.old + 1 < 2 ^ 64 }
@@ -111,7 +111,7 @@ impl LineHead {
         }
     }
 
-    /// A message was taken, if there was one: where it was the last, the line is none of those any more.
+    /// Notes that a message may have been taken, and takes the line from the count if it has none left.
     #[inline(always)]
     fn note_taken(&mut self, waiting: &mut usize)
         requires { self.old.waits ≡ true → 0 < waiting.old }

@@ -33,7 +33,7 @@ pub enum Message {
     Request(RequestMessage),
     Forwarded(ForwardedMessage),
     Data(DataMessage),
-    /// The sender gave up its shared copy.
+    /// The sender invalidated its shared copy.
     InvAck,
     /// A block on its way home to the directory.
     Home(Block),

@@ -74,7 +74,7 @@ impl<'a> LinesWaiting<'a> {
     }
 }
 
-/// The picks with a message: of the start line, then of the lines after it, and at last of the lines before it.
+/// The picks with a message: of the start line, then of the lines after it, and finally of the lines before it.
 #[derive(Drop)]
 pub struct Picks<'a> {
     from_start: LinesWaiting<'a>,

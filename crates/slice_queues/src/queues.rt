@@ -269,8 +269,8 @@ impl Queues {
         self.lines.take(local, channel)
     }
 
-    /// The picks with a message, each once and no other: those of the start line first, then those of the lines after
-    /// it, and at last those of the lines before it. Within a line they come kind by kind. It takes no memory.
+    /// Returns the picks with a message, each once and no other: those of the start line, then those of the lines
+    /// after it, and finally those of the lines before it. Within a line they come kind by kind. Allocates nothing.
     pub fn picks_from(&self, start: LineAddr) -> Picks<'_>
         requires { HasLine self.now.channels start }
         ensures order { result ≡ picks_waiting self.now.channels start }

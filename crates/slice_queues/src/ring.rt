@@ -29,7 +29,7 @@ impl Model for LineRing {
 impl LineRing {
     ghost use Rattle.slice_queues.specs.Ring.{IsOrder, with_listed};
 
-    /// Takes the memory for a round of up to this many lines, in which none stands yet.
+    /// Allocates an empty round for up to `lines` lines.
     pub fn build(alloc: Global, lines: usize) -> Result<Self, AllocError>
         ensures { IfOk result (λ ring. ring ≡ record { order = []; lines = lines }) }
     {

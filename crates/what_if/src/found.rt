@@ -1,5 +1,5 @@
-//! What is told of a step besides its row: whether the row is ours, what a write does that has joined, and which messages
-//! a changed cell doesn't take.
+//! What is said of a step besides its row: whether the row is ours, what a write does that has joined, and which
+//! messages a changed cell doesn't take.
 
 use super::line::Line;
 use super::step::{Met, Step};
@@ -33,7 +33,7 @@ fn our_row(exclusive: bool, line: &Line, event: DirEvent) -> DirRow {
     dir_row(exclusive, &entry, event)
 }
 
-/// The row of a write that has joined a load's miss and goes on with the load's data, and whether our table has another.
+/// The row of a write that has joined a load's miss and continues with its data, and whether our table has another.
 pub(crate) fn joined_row(tables: &Tables, line: &Line, met: &Met) -> Option<(Row, bool)> {
     match met {
         Met::Cache {

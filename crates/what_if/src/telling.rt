@@ -1,4 +1,4 @@
-//! Tells what was found, as text for a terminal.
+//! Writes what was found, as text for a terminal.
 
 use super::found::{blocked_by_change, deliveries_to, is_changed, joined_row};
 use super::line::Line;
@@ -18,7 +18,7 @@ use std::alloc::Global;
 use std::fmt;
 use std::fmt::Write;
 
-/// What is told: the steps of a run and the promise that they break, or what was tried in vain.
+/// What is written: the steps of a run and the promise that they break, or what was tried in vain.
 #[derive(Clone, Copy)]
 pub struct Told<'a> {
     pub cores: u8,
@@ -142,7 +142,7 @@ fn write_columns<W: Write>(
     }
 }
 
-// The write that goes on with the data of the load whose miss it has joined.
+// The write that continues with the data of the load whose miss it has joined.
 fn write_joined<W: Write>(
     alloc: Global,
     tables: &Tables,

@@ -1,4 +1,4 @@
-//! Tells what was found, as JSON.
+//! Writes what was found, as JSON.
 
 use super::found::{blocked_by_change, deliveries_to, is_changed, joined_row};
 use super::line::{CoreSide, Line};
@@ -161,7 +161,7 @@ fn write_met<W: Write>(line: &Line, met: &Met, out: &mut W) -> fmt::Result {
     write!(out, "\"")
 }
 
-// The row of a write that goes on with the data of the load whose miss it has joined.
+// The row of a write that continues with the data of the load whose miss it has joined.
 fn write_joined<W: Write>(tables: &Tables, line: &Line, met: &Met, out: &mut W) -> fmt::Result {
     let Some((row, is_changed)) = joined_row(tables, line, met) else {
         return Ok(());

@@ -1,4 +1,4 @@
-//! The names under which steps, cells and promises are told.
+//! The names under which steps, cells and promises are shown.
 
 use super::line::{DataKind, ForwardedKind, RequestKind};
 use super::promise::Promise;
@@ -9,7 +9,7 @@ use protocol_tables::{CacheCase, Counted, sample_of, text_of_effect, text_of_hom
 use std::fmt;
 use std::fmt::Write;
 
-/// A promise, as it is told.
+/// A promise, as it is shown.
 pub const fn name_of_promise(promise: Promise) -> &'static str {
     match promise {
         Promise::OneWriter => "one writer, or only readers",

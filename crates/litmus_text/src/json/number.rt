@@ -3,14 +3,14 @@ ghost use Rattle.litmus_text.specs.JsonNumber.{is_exact};
 
 use std::fmt;
 
-/// Whether a number has at most 15 digits: one that a reader keeps as it is that keeps numbers in 53 bits.
+/// Whether a number has at most 15 digits, so that a reader that keeps numbers in 53 bits keeps it exactly.
 pub fn is_exact(number: u64) -> bool
     ensures { result ≡ is_exact number }
 {
     number < 1_000_000_000_000_000
 }
 
-/// A number, which is a string where it has more than 15 digits.
+/// A number, written as a string if it has more than 15 digits.
 #[derive(Clone, Copy)]
 pub struct Number(pub u64);
 

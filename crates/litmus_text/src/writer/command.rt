@@ -12,7 +12,7 @@ use address_map::{CoreId, Op, Request, WordAddr};
 use std::fmt;
 use std::fmt::Write;
 
-/// Writes the line of a script that is this command.
+/// Writes a command as a line of a script.
 pub fn write_command<W: Write>(command: Command, out: &mut W) -> fmt::Result
     ensures { OnOk result (WritesInCalls W.write_str_gives out.old (line_of_parts (parts_of command)) out.new) }
 {

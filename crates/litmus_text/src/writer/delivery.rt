@@ -2,7 +2,7 @@ use address_map::CoreId;
 use slice_queues::Pick;
 use std::fmt;
 
-/// The command of a script that delivers the message in front of a channel.
+/// The command of a script that delivers the message at the front of a channel.
 #[derive(Clone, Copy, Debug, PartialEq, Eq)]
 pub struct Delivery(pub Pick);
 

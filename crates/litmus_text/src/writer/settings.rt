@@ -12,7 +12,7 @@ use mshr_file::MissKind;
 use std::fmt;
 use std::fmt::Write;
 
-/// Writes the lines that configure such a machine, whose caches keep track of their misses in this way.
+/// Writes the lines that configure a machine, with this kind of miss registers.
 pub fn write_settings<W: Write>(config: &Checked, misses: MissKind, out: &mut W) -> fmt::Result
     ensures { OnOk result (WritesInCalls W.write_str_gives out.old
         (text_of_lines (lines_of_settings config.now misses)) out.new) }

@@ -1,6 +1,6 @@
 //! The page's code: messages as arrows.
 
-/// An arrow goes from a message's sending to its delivery, and has its name and its words beside it.
+/// An arrow goes from a message's sending to its delivery, and has its name and its words next to it.
 pub const ARROWS: &str = r#"
 // ---- arrows
 

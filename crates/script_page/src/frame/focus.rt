@@ -1,6 +1,6 @@
-//! The page's code: what is beside the diagram.
+//! The page's code: what is next to the diagram.
 
-/// Tells one step: the command and what happened, the row that was met, and what the cores hold.
+/// Describes one step: the command and what happened, the row that was met, and what the cores hold.
 pub const FOCUS: &str = r#"
 // ---- the step
 

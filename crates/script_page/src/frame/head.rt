@@ -1,4 +1,4 @@
-//! What stands before the run: the page's look, and its parts.
+//! What comes before the run: the page's look, and its parts.
 
 /// The head and the styles. Each state has a colour of its own, `--c`, and is always lettered too.
 pub const HEAD: &str = r#"<!doctype html>

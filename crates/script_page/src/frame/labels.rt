@@ -1,6 +1,6 @@
-//! The page's code: labels, of which none stands on another, nor on a lifeline.
+//! The page's code: labels, none of them on another or on a lifeline.
 
-/// Finds a free place for each label: beside what it names, or along its arrow, and in fewer words where there is less
+/// Finds a free place for each label: next to what it names, or along its arrow, and in fewer words where there is less
 /// room.
 pub const LABELS: &str = r#"
 // ---- labels

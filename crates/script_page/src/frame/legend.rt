@@ -1,6 +1,6 @@
 //! The page's code: the legend.
 
-/// Says what each sign of the diagram is, with the sign itself.
+/// Explains each sign of the diagram, with the sign itself.
 pub const LEGEND: &str = r#"
 // ---- the legend
 

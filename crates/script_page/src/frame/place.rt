@@ -1,4 +1,4 @@
-//! The page's code: where everything stands in the diagram.
+//! The page's code: where everything is in the diagram.
 
 /// What is shown, how large it is, and where: the lines that have lanes, the lifelines, and the heights of rows.
 pub const PLACE: &str = r#"

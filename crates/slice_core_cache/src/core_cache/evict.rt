@@ -19,7 +19,7 @@ impl<F: MissFile> CoreCache<F> {
     ghost use Rattle.slice_core_cache.specs.Access.{evicted_of, has_victim, victim_of, CanLeave, CanReplace, CanStand};
     ghost use Rattle.slice_core_cache.specs.Steps.{after_draw, after_evict, after_replace, put_of, victim_for};
 
-    /// What an eviction of the line is answered.
+    /// Decides whether the line can be evicted, or why not.
     pub fn decide_evict(&self, local: Local) -> Evicted
         ensures { result ≡ evicted_of self.now local }
     {
@@ -34,7 +34,7 @@ impl<F: MissFile> CoreCache<F> {
         }
     }
 
-    /// Makes a way for the line: a victim of its set leaves. Returns the victim, and what the directory is sent for it.
+    /// Makes a way for the line: evicts a victim of its set. Returns the victim, and what is sent to the directory.
     #[inline(always)]
     pub fn replace(&mut self, local: Local) -> (Local, RequestMessage)
         requires replaces { CanReplace self.old local }
@@ -51,7 +51,7 @@ impl<F: MissFile> CoreCache<F> {
         (victim, put)
     }
 
-    // Chooses the line that leaves for another of its set. A random policy draws its next word for it.
+    // Chooses the line to evict for another of its set. A random policy draws its next word for it.
     #[inline(always)]
     fn draw_victim(&mut self, local: Local) -> Local
         requires { has_victim self.old local ≡ true }
@@ -71,14 +71,14 @@ impl<F: MissFile> CoreCache<F> {
         }
     }
 
-    // Whether some line of the line's set may leave.
+    // Whether some line of the line's set may be evicted.
     pub(super) fn has_victim(&self, local: Local) -> bool
         ensures { result ≡ has_victim self.now local }
     {
         self.array.has_victim(local, |copy| may_leave(copy.state))
     }
 
-    // The line of the line's set that the policy gives up by this word, if one may leave.
+    // The line of the line's set that the policy evicts by this word, if one may be evicted.
     fn victim(&self, local: Local, word: u64) -> Option<Local>
         ensures victim { result ≡ victim_of self.now local word }
         ensures some { is_some result ≡ has_victim self.now local }
@@ -90,8 +90,8 @@ impl<F: MissFile> CoreCache<F> {
         self.array.victim(local, |copy| may_leave(copy.state), word)
     }
 
-    /// Moves the line's copy to the write-back buffer. Returns what the directory is sent.
-    // Its answer carries a block: were it not inlined, that would be copied once more, as by the two above.
+    /// Moves the line's copy to the write-back buffer. Returns what is sent to the directory.
+    // Its result carries a block: were it not inlined, that would be copied once more, as by the two above.
     #[inline(always)]
     pub fn evict(&mut self, local: Local) -> RequestMessage
         requires { CanLeave self.old local }

@@ -51,7 +51,7 @@ impl<F: MissFile> CoreCache<F> {
         let state = self.array.value(local, way).state;
         let (next, ask) = match cache_row(state, event_of(op)) {
             Row::Go(next, CacheSends::Nothing) => {
-                // a write to an exclusive copy changes it, and nobody is told
+                // a write to an exclusive copy changes it, and no message is sent
                 let silent = matches!((state, next), (CopyState::E, CopyState::M));
                 return AccessKind::Hit { way, next, silent };
             }
@@ -71,7 +71,7 @@ impl<F: MissFile> CoreCache<F> {
         }
     }
 
-    // What is to be done with an access to a line that stands nowhere.
+    // Decides what is to be done with an access to a line that the core has no copy of.
     fn decide_absent(&self, local: Local, op: Op, room: bool) -> AccessKind
         requires absent { array_at self.now.array local ≡ None }
         requires stays { buffer_at self.now.buffer.write_backs local.0 ≡ None }
@@ -102,7 +102,7 @@ impl<F: MissFile> CoreCache<F> {
         }
     }
 
-    /// Performs an access on the copy in this way of the line's set, which allows it, and answers the reply.
+    /// Performs an access on the copy in this way of the line's set, which allows it, and returns the reply.
     pub fn hit(&mut self, local: Local, way: usize, offset: Offset, op: Op, next: CopyState) -> u64
         requires held { position (holds local) (slots_at self.old.array local) ≡ Some way }
         requires within { offset.0 < 8 }

@@ -30,7 +30,7 @@ pub struct CopyLook {
 impl<F: MissFile> CoreCache<F> {
     ghost use Rattle.slice_core_cache.specs.CoreCache.{copy_of, leaving_lines};
 
-    /// The core's copy of a line but for its block. It stands in the array, or in the write-back buffer, or nowhere.
+    /// The core's copy of a line but for its block. It is in the array, or in the write-back buffer, or nowhere.
     pub fn look(&self, local: Local) -> CopyLook
         ensures way { result.way ≡ position (holds local) (slots_at self.now.array local) }
         ensures state { result.state ≡ (copy_of self.now local).state }
@@ -58,7 +58,7 @@ impl<F: MissFile> CoreCache<F> {
         }
     }
 
-    /// The block of the core's copy, wherever it stands.
+    /// The block of the core's copy, wherever it is.
     pub fn block(&self, local: Local) -> &Block
         requires { IsSome (array_at self.now.array local) ⊎ IsSome (buffer_at self.now.buffer.write_backs local.0) }
         ensures { result.now ≡ (copy_of self.now local).block }

@@ -36,7 +36,7 @@ impl<F: MissFile> CoreCache<F> {
         }
     }
 
-    /// The copy gets the data that came, which named so many acknowledgements, and goes to the next state.
+    /// The copy gets the data that came, which named `wants` acknowledgements, and goes to the next state.
     pub fn fill(&mut self, local: Local, way: usize, block: &Block, wants: u8, next: CopyState)
         requires { position (holds local) (slots_at self.old.array local) ≡ Some way }
         ensures { self.new ≡ after_change self.old local (copy_after_fill (array_copy self.old local) block.now wants next) }

@@ -21,8 +21,8 @@ use std::alloc::{AllocError, Global};
 use std::boxed::BoxedSlice;
 
 impl<F: MissFile> Parts<F> {
-    /// A slice of the configured machine in which nothing was asked for yet, and whose cores keep their misses in files
-    /// like this one, which has none.
+    /// Returns a slice of the configured machine in which nothing was requested yet. Its cores keep their misses in
+    /// files like this one, which is empty.
     pub fn new(
         alloc: Global,
         config: &Checked,
@@ -84,7 +84,7 @@ impl<F: MissFile> Parts<F> {
         Ok((entries, queues))
     }
 
-    // The caches, the log, with room for as many entries, and the counts.
+    // Copies the caches, the log with the same capacity, and the counts.
     fn copied_cores(
         &self,
         alloc: Global,
@@ -113,7 +113,7 @@ impl<F: MissFile> Parts<F> {
     }
 }
 
-// The lines that nobody has, with their home copies and their empty channels.
+// Returns the directory's entries, with their home copies, and the empty channels. No core has a copy of a line.
 fn new_lines(
     alloc: Global,
     config: &Checked,
@@ -130,7 +130,7 @@ fn new_lines(
     Ok((entries, queues))
 }
 
-// The cores that asked for nothing yet, and what was counted of them.
+// Returns cores that have requested nothing yet, and their counts.
 fn new_cores<F: MissFile>(
     alloc: Global,
     config: &Checked,
@@ -181,7 +181,7 @@ fn copied_caches<F: MissFile>(
     Ok(all.into_boxed_slice())
 }
 
-// The same entries, with room for as many.
+// Copies the entries, with the same capacity.
 fn copied_log(alloc: Global, log: &Vec<Entry>) -> Result<Vec<Entry>, AllocError>
     ensures items { IfOk result (λ copy. copy.items ≡ log.now.items) }
     ensures room { IfOk result (λ copy. vec_capacity copy ≡ vec_capacity log.now) }

@@ -14,7 +14,7 @@ use slice_answer::Evicted;
 use slice_queues::{Channel, Message};
 
 impl<F: MissFile> Parts<F> {
-    /// Moves the core's copy of a line to its write-back buffer and tells the directory, or says why not.
+    /// Moves the core's copy of a line to its write-back buffer and notifies the directory, or says why not.
     pub fn evict(&mut self, core: CoreId, line: LineAddr) -> Evicted
         requires { CanIssue self.old core }
         ensures { AfterEvict self.old core line result self.new }
@@ -29,7 +29,7 @@ impl<F: MissFile> Parts<F> {
         answer
     }
 
-    // The core's copy of a line leaves, and the directory is told.
+    // Evicts the core's copy of a line, and notifies the directory.
     fn leave(&mut self, core: CoreId, local: Local)
         requires core { core.0 < length self.old.view.caches }
         requires line { local.0 < self.old.view.lines.lines }

@@ -185,7 +185,7 @@ impl<F: MissFile> Parts<F> {
         cache.join(local, request.word.offset(), request, since)
     }
 
-    // A victim of the line's set leaves for it, and the directory is told.
+    // Evicts a victim of the line's set to make a way for it, and notifies the directory.
     fn replace(&mut self, core: CoreId, local: Local)
         requires can { CanIssue self.old core }
         requires line { local.0 < self.old.view.lines.lines }

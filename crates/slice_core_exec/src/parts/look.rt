@@ -41,7 +41,7 @@ impl<F: MissFile> Parts<F> {
         }
     }
 
-    /// Some of the lines of which a core has a copy, each once.
+    /// Returns some of the lines that the core has a copy of, each once.
     pub fn core_lines(
         &self,
         alloc: Global,
@@ -127,7 +127,8 @@ impl<F: MissFile> Parts<F> {
         self.queues.line(local).waiting()
     }
 
-    /// Whether no message is in flight, no miss register is held, no line leaves and each reply is handed out.
+    /// Whether no message is in flight, no miss register is held, no write-back is pending and each reply is handed
+    /// out.
     pub fn is_quiet(&self) -> bool
         ensures { IsTrue result ↔ IsQuiet self.now.view }
     {

@@ -3,7 +3,7 @@ use Rattle.litmus_text.specs.declared.fault.TextFault.{TextFault}
 use Rattle.litmus_script.specs.Play.{PlaysAll, PlaysUpTo}
 use Rattle.litmus_script.proofs.script.play_all.Given as goal
 
--- who plays the statements that are left has played all
+-- after the remaining statements all are played
 abbrev pub invariant-lines : goal.invariant-lines
 invariant-lines g l =
     let plays = g.P.Player.plays in

@@ -4,7 +4,7 @@ use Rattle.trace_check.specs.declared.trace_line.TraceLine.TheVariants as trace_
 use Rattle.litmus_script.specs.Shown.{text_of_lines}
 use Rattle.litmus_script.proofs.trace.write_entries.Given as goal
 
--- who writes those that are left has written all
+-- after the remaining entries all are written
 abbrev pub invariant-loop-entry : goal.invariant-loop-entry
 invariant-loop-entry g l =
     let took = g.W.Write.write_str_gives in

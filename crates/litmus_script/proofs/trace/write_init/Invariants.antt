@@ -4,7 +4,7 @@ use Rattle.trace_check.specs.declared.trace_line.TraceLine.TheVariants as trace_
 use Rattle.litmus_script.specs.Shown.{text_of_lines}
 use Rattle.litmus_script.proofs.trace.write_init.Given as goal
 
--- who writes those that are left has written all
+-- after the remaining values all are written
 abbrev pub invariant-loop-word : goal.invariant-loop-word
 invariant-loop-word g l =
     let took = g.W.Write.write_str_gives in

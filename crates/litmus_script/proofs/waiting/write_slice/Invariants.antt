@@ -3,7 +3,7 @@ use Rattle.std.specs.Fmt.{WritesInCalls}
 use Rattle.litmus_script.specs.Waiting.{flights_of, lines_of, picks_of}
 use Rattle.litmus_script.proofs.waiting.write_slice.Given as goal
 
--- who writes the lines that are left has written all
+-- after the remaining lines all are written
 abbrev pub invariant-loop-pick : goal.invariant-loop-pick
 invariant-loop-pick g l =
     let took = g.W.Write.write_str_gives in

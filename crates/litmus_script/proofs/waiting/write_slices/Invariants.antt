@@ -3,7 +3,7 @@ use Rattle.std.specs.Fmt.{WritesInCalls}
 use Rattle.litmus_script.specs.Waiting.{in_flight, lines_of}
 use Rattle.litmus_script.proofs.waiting.write_slices.Given as goal
 
--- who writes the lines of the slices that are left has written all
+-- after the lines of the remaining slices all are written
 abbrev pub invariant-loop-state : goal.invariant-loop-state
 invariant-loop-state g l =
     let took = g.W.Write.write_str_gives in

@@ -3,7 +3,7 @@ use Rattle.std.specs.Fmt.{WritesInCalls}
 use Rattle.litmus_walk.specs.Script.{text_of_calls}
 use Rattle.litmus_walk.proofs.script.write_calls.Given as goal
 
--- who writes the calls that are left has written all
+-- after the remaining calls all are written
 abbrev pub invariant-loop-made : goal.invariant-loop-made
 invariant-loop-made g l =
     let took = g.W.Write.write_str_gives in

@@ -5,7 +5,7 @@ use Rattle.litmus_text.specs.JsonList.{with_commas_from}
 use Rattle.program_run.specs.Json.{line_objects_of, objects_of_lines}
 use Rattle.program_run.proofs.json.write_lines.Given as goal
 
--- who writes the objects that are left has written all
+-- once the objects that are left are written, all are
 abbrev pub invariant-loop-line : goal.invariant-loop-line
 invariant-loop-line g l =
     let took = g.W.Write.write_str_gives in

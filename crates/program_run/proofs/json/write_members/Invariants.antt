@@ -4,7 +4,7 @@ use Rattle.litmus_text.specs.JsonList.{with_commas_from}
 use Rattle.program_run.specs.Json.{member_of, members_of}
 use Rattle.program_run.proofs.json.write_members.Given as goal
 
--- who writes the members that are left has written all
+-- once the members that are left are written, all are
 abbrev pub invariant-loop-column : goal.invariant-loop-column
 invariant-loop-column g l =
     let took = g.W.Write.write_str_gives in

@@ -1,7 +1,7 @@
 use Rattle.std.proofs.Common.{◌≡◌, ◌++◌, drop, length, map, take}
 use Rattle.program_run.proofs.owed.owe_all.Given as goal
 
--- those of the slices so far are as many, and with the others all are
+-- the list keeps its length; the slices so far owe `pace`, and with the others all do
 abbrev pub invariant-loop-slice : goal.invariant-loop-slice
 invariant-loop-slice l = record {
   many : length l.owed.items ≡ length l.fn.owed.items;

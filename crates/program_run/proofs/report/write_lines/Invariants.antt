@@ -5,7 +5,7 @@ use Rattle.program_run.specs.Report.{line_row, line_rows}
 use Rattle.program_run.specs.Tally.{counts_at}
 use Rattle.program_run.proofs.report.write_lines.Given as goal
 
--- who writes the rows that are left has written all
+-- once the rows that are left are written, all are
 abbrev pub invariant-loop-line : goal.invariant-loop-line
 invariant-loop-line g l =
     let took = g.W.Write.write_str_gives in

@@ -3,7 +3,7 @@ use Rattle.std.specs.Fmt.{WritesInCalls}
 use Rattle.program_run.specs.Report.{names_of}
 use Rattle.program_run.proofs.report.write_names.Given as goal
 
--- who writes the names that are left has written all
+-- once the names that are left are written, all are
 abbrev pub invariant-loop-column : goal.invariant-loop-column
 invariant-loop-column g l =
     let took = g.W.Write.write_str_gives in

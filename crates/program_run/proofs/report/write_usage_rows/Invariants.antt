@@ -5,7 +5,7 @@ use Rattle.program_run.specs.Report.{usage_row, usage_rows}
 use Rattle.program_run.specs.Usage.{usage_at}
 use Rattle.program_run.proofs.report.write_usage_rows.Given as goal
 
--- who writes the rows that are left has written all
+-- once the rows that are left are written, all are
 abbrev pub invariant-loop-core : goal.invariant-loop-core
 invariant-loop-core g l =
     let took = g.W.Write.write_str_gives in

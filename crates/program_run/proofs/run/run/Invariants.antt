@@ -5,7 +5,7 @@ use Rattle.program_run.specs.Run.{Leads}
 use Rattle.program_run.proofs.RunLemmas.{HasMade}
 use Rattle.program_run.proofs.run.run.Given as goal
 
--- so many moves were made, a word of the generator for each, and what is kept holds
+-- `made` moves were made, a word of the generator for each, and what is kept holds
 abbrev pub invariant-loop-made : goal.invariant-loop-made
 invariant-loop-made g l =
     Leads (HasMade l.fn.runner.config l.programs (of_seed (splitmix_seed 32 l.seed)) l.generator l.made l.owed.items)

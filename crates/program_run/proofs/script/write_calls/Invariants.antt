@@ -3,7 +3,7 @@ use Rattle.std.specs.Fmt.{WritesInCalls}
 use Rattle.program_run.specs.Calls.{text_of_calls}
 use Rattle.program_run.proofs.script.write_calls.Given as goal
 
--- who writes the calls that are left has written all
+-- once the calls that are left are written, all are
 abbrev pub invariant-loop-call : goal.invariant-loop-call
 invariant-loop-call g l =
     let took = g.W.Write.write_str_gives in

@@ -5,7 +5,7 @@ use Rattle.slice_core_spec.specs.Calls.{PartsView}
 use Rattle.program_run.specs.Tidy.{TidiesAll}
 use Rattle.program_run.proofs.tidy.tidy_all.Given as goal
 
--- whatever tidies the slices that are left, tidies all
+-- once the slices that are left are tidied, all are
 abbrev pub invariant-loop-slice : goal.invariant-loop-slice
 invariant-loop-slice l =
     let slices = l.initial.machine.config.slices in

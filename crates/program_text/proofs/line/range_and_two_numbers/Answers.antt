@@ -9,7 +9,7 @@ use Rattle.program_text.proofs.LineLemmas.{first_refused}
 use Rattle.program_text.proofs.line.range_and_two_numbers.Goals as goal
 
 module _ {X : Type 0} (text : X → List ℕ) where
-  -- what so many words write, by what each is
+  -- what three words write, by what each is
   written : (words : List X) (d : X) (first last n m : ℕ) → 3 ≤ length words → length words < 4
       → IsRange (text (get_or words 0 d)) first last
       → IsNumber (text (get_or words 1 d)) × (n ≡ digits_value 10 (text (get_or words 1 d)))

@@ -3,7 +3,7 @@ use Rattle.std.specs.List.{range_with_len}
 use Rattle.program_text.specs.Text.{access_to}
 use Rattle.program_text.proofs.repeat.push_accesses.Given as goal
 
--- the steps to the words below this one stand there
+-- the steps to the words below this one are there
 abbrev pub invariant-loop-word : goal.invariant-loop-word
 invariant-loop-word l =
     l.steps.items

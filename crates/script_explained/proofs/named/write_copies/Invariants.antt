@@ -3,7 +3,7 @@ use Rattle.std.specs.Fmt.{WritesInCalls}
 use Rattle.script_explained.specs.Named.{text_of_copies}
 use Rattle.script_explained.proofs.named.write_copies.Given as goal
 
--- who writes the copies of the lines that are left has written all
+-- once the copies of the lines that are left are written, all are
 abbrev pub invariant-loop-line : goal.invariant-loop-line
 invariant-loop-line g l =
     let took = g.W.Write.write_str_gives in

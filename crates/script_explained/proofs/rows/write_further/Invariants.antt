@@ -4,7 +4,7 @@ use Rattle.std.specs.List.{flat_map}
 use Rattle.script_explained.specs.Rows.{row_of}
 use Rattle.script_explained.proofs.rows.write_further.Given as goal
 
--- who writes the lines that are left has written all
+-- once the lines that are left are written, all are
 abbrev pub invariant-loop-line : goal.invariant-loop-line
 invariant-loop-line g l =
     let contents = g.W.Write.contents in

@@ -5,7 +5,7 @@ use Rattle.litmus_text.specs.JsonList.{with_commas_from}
 use Rattle.script_json.specs.Held.{copies_of, list_of_copies}
 use Rattle.script_json.proofs.held.write_copies_of.Given as goal
 
--- who writes the copies that are left has written all
+-- once the copies that are left are written, all are
 abbrev pub invariant-loop-core : goal.invariant-loop-core
 invariant-loop-core g l =
     let took = g.W.Write.write_str_gives in

@@ -5,7 +5,7 @@ use Rattle.litmus_text.specs.JsonList.{with_commas_from}
 use Rattle.script_json.specs.Held.{lines_from, texts_of}
 use Rattle.script_json.proofs.held.write_lines.Given as goal
 
--- who writes the lines that are left has written all
+-- once the lines that are left are written, all are
 abbrev pub invariant-loop-number : goal.invariant-loop-number
 invariant-loop-number g l =
     let took = g.W.Write.write_str_gives in

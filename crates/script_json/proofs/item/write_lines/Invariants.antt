@@ -4,7 +4,7 @@ use Rattle.litmus_text.specs.JsonList.{with_commas, with_commas_from}
 use Rattle.script_json.specs.Value.{item_of_line}
 use Rattle.script_json.proofs.item.write_lines.Given as goal
 
--- who writes the items that are left has written all
+-- once the items that are left are written, all are
 abbrev pub invariant-loop-line : goal.invariant-loop-line
 invariant-loop-line g l =
     let contents = g.W.Write.contents in

@@ -5,7 +5,7 @@ use Rattle.litmus_text.specs.JsonList.{with_commas_from}
 use Rattle.script_json.specs.Slices.{list_of_replies, reply_at}
 use Rattle.script_json.proofs.slices.write_replies.Given as goal
 
--- who writes the replies at the places that are left has written all
+-- once the replies at the places that are left are written, all are
 abbrev pub invariant-loop-place : goal.invariant-loop-place
 invariant-loop-place g l =
     let took = g.W.Write.write_str_gives in

@@ -6,7 +6,7 @@ use Rattle.script_json.specs.Slices.{list_of_ring, ring_at}
 use Rattle.slice_core_spec.specs.Parts.{ring_lines}
 use Rattle.script_json.proofs.slices.write_ring.Given as goal
 
--- who writes the lines that are left has written all
+-- once the lines that are left are written, all are
 abbrev pub invariant-loop-place : goal.invariant-loop-place
 invariant-loop-place g l =
     let took = g.W.Write.write_str_gives in

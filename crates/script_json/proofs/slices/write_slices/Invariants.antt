@@ -4,7 +4,7 @@ use Rattle.litmus_text.specs.JsonList.{with_commas, with_commas_from}
 use Rattle.script_json.specs.Slices.{texts_of_slices}
 use Rattle.script_json.proofs.slices.write_slices.Given as goal
 
--- who writes the slices that are left has written all
+-- once the slices that are left are written, all are
 abbrev pub invariant-loop-number : goal.invariant-loop-number
 invariant-loop-number g l =
     let took = g.W.Write.write_str_gives in

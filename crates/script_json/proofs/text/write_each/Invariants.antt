@@ -4,7 +4,7 @@ use Rattle.litmus_text.specs.JsonList.{with_commas, with_commas_from}
 use Rattle.script_json.specs.Text.{value_of}
 use Rattle.script_json.proofs.text.write_each.Given as goal
 
--- who writes the items that are left has written all
+-- once the items that are left are written, all are
 abbrev pub invariant-loop-word : goal.invariant-loop-word
 invariant-loop-word g l =
     let contents = g.W.Write.contents in

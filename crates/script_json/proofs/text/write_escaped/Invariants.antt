@@ -4,7 +4,7 @@ use Rattle.std.specs.List.{flat_map}
 use Rattle.script_json.specs.Text.{escaped}
 use Rattle.script_json.proofs.text.write_escaped.Given as goal
 
--- who writes the bytes that are left has written all
+-- once the bytes that are left are written, all are
 abbrev pub invariant-loop-byte : goal.invariant-loop-byte
 invariant-loop-byte g l =
     let contents = g.W.Write.contents in

@@ -5,7 +5,7 @@ use Rattle.script_page.specs.Core.{list_of_replies, replies_of}
 use Rattle.litmus_text.specs.JsonList.{with_commas_from}
 use Rattle.script_page.proofs.core_part.write_replies.Given as goal
 
--- who writes the replies of the tags that are left has written all
+-- once the replies of the tags that are left are written, all are
 abbrev pub invariant-loop-tag : goal.invariant-loop-tag
 invariant-loop-tag g l =
     let took = g.W.Write.write_str_gives in

@@ -4,7 +4,7 @@ use Rattle.std.specs.List.{flat_map}
 use Rattle.script_test.specs.Judged.{text_of_difference, unlike_of}
 use Rattle.script_test.proofs.print.write_differences.Given as goal
 
--- who writes the differences that are left has written all
+-- once the differences that are left are written, all are
 abbrev pub invariant-loop-difference : goal.invariant-loop-difference
 invariant-loop-difference g l =
     let contents = g.W.Write.contents in

@@ -3,7 +3,7 @@ use Rattle.std.specs.Io.KnownBytes.{Appends}
 use Rattle.script_waves.specs.Changes.{changes}
 use Rattle.script_waves.proofs.changes.write_each.Given as goal
 
--- who writes the changes that are left has written all
+-- once the changes that are left are written, all are
 abbrev pub invariant-loop-value : goal.invariant-loop-value
 invariant-loop-value g l =
     let contents = g.W.Write.contents in

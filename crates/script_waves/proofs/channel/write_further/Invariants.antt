@@ -4,7 +4,7 @@ use Rattle.std.specs.List.{flat_map}
 use Rattle.script_waves.specs.Values.{text_behind}
 use Rattle.script_waves.proofs.channel.write_further.Given as goal
 
--- who writes the names that are left has written all
+-- once the names that are left are written, all are
 abbrev pub invariant-loop-channel : goal.invariant-loop-channel
 invariant-loop-channel g l =
     let took = g.W.Write.write_str_gives in

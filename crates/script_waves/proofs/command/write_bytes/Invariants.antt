@@ -4,7 +4,7 @@ use Rattle.std.specs.List.{flat_map}
 use Rattle.script_waves.specs.Values.{byte_shown}
 use Rattle.script_waves.proofs.command.write_bytes.Given as goal
 
--- who writes the bytes that are left has written all
+-- once the bytes that are left are written, all are
 abbrev pub invariant-loop-byte : goal.invariant-loop-byte
 invariant-loop-byte g l =
     let took = g.W.Write.write_str_gives in

@@ -4,7 +4,7 @@ use Rattle.std.specs.List.{flat_map, range_with_len}
 use Rattle.script_waves.specs.Signals.{text_of_slice}
 use Rattle.script_waves.proofs.core_header.write_slices.Given as goal
 
--- who writes those that are left has written all
+-- once those that are left are written, all are
 abbrev pub invariant-loop-slice : goal.invariant-loop-slice
 invariant-loop-slice g l =
     let took = g.W.Write.write_str_gives in

@@ -5,7 +5,7 @@ use Rattle.script_waves.specs.Signals.{text_of_copies, text_of_signal}
 use Rattle.script_waves.specs.declared.signal.Signal.TheVariants as signals
 use Rattle.script_waves.proofs.header.write_copies.Given as goal
 
--- who writes those that are left has written all
+-- once those that are left are written, all are
 abbrev pub invariant-loop-core : goal.invariant-loop-core
 invariant-loop-core g l =
     let took = g.W.Write.write_str_gives in

@@ -4,7 +4,7 @@ use Rattle.std.specs.List.{flat_map}
 use Rattle.script_waves.specs.Signals.{text_of_scope}
 use Rattle.script_waves.proofs.header.write_scopes.Given as goal
 
--- who writes the lines that are left has written all
+-- once the lines that are left are written, all are
 abbrev pub invariant-loop-line : goal.invariant-loop-line
 invariant-loop-line g l =
     let took = g.W.Write.write_str_gives in

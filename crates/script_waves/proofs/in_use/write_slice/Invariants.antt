@@ -4,7 +4,7 @@ use Rattle.std.specs.List.{flat_map, range_with_len}
 use Rattle.script_waves.specs.InUse.{text_of_core_use}
 use Rattle.script_waves.proofs.in_use.write_slice.Given as goal
 
--- who writes the cores that are left has written all
+-- once the cores that are left are written, all are
 abbrev pub invariant-loop-core : goal.invariant-loop-core
 invariant-loop-core g l =
     let contents = g.W.Write.contents in

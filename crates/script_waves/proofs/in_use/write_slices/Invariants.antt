@@ -3,7 +3,7 @@ use Rattle.std.specs.Io.KnownBytes.{Appends}
 use Rattle.script_waves.specs.InUse.{text_of_uses}
 use Rattle.script_waves.proofs.in_use.write_slices.Given as goal
 
--- who writes the slices that are left has written all
+-- once the slices that are left are written, all are
 abbrev pub invariant-loop-slice : goal.invariant-loop-slice
 invariant-loop-slice g l =
     let contents = g.W.Write.contents in

@@ -3,7 +3,7 @@ use Rattle.std.specs.Fmt.{WritesInCalls}
 use Rattle.script_waves.specs.Values.{text_of_states}
 use Rattle.script_waves.proofs.values.write_copies.Given as goal
 
--- who writes those that are left has written all
+-- once those that are left are written, all are
 abbrev pub invariant-loop-core : goal.invariant-loop-core
 invariant-loop-core g l =
     let took = g.W.Write.write_str_gives in

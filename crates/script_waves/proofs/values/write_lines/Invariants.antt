@@ -3,7 +3,7 @@ use Rattle.std.specs.Fmt.{WritesInCalls}
 use Rattle.script_waves.specs.Values.{text_of_lines}
 use Rattle.script_waves.proofs.values.write_lines.Given as goal
 
--- who writes the lines that are left has written all
+-- once the lines that are left are written, all are
 abbrev pub invariant-loop-line : goal.invariant-loop-line
 invariant-loop-line g l =
     let took = g.W.Write.write_str_gives in

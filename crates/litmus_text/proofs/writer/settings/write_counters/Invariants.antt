@@ -4,7 +4,7 @@ use Rattle.litmus_text.specs.declared.config_line.ConfigLine.TheVariants as conf
 use Rattle.litmus_text.specs.SettingsLines.{text_of_lines}
 use Rattle.litmus_text.proofs.writer.settings.write_counters.Given as goal
 
--- who writes the counters that are left has written all
+-- after the remaining counters all are written
 abbrev pub invariant-loop-counter : goal.invariant-loop-counter
 invariant-loop-counter g l =
     let took = g.W.Write.write_str_gives in

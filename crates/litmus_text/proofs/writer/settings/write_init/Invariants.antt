@@ -3,7 +3,7 @@ use Rattle.std.specs.Fmt.{WritesInCalls}
 use Rattle.litmus_text.specs.SettingsLines.{init_line, text_of_lines}
 use Rattle.litmus_text.proofs.writer.settings.write_init.Given as goal
 
--- who writes the values that are left has written all
+-- after the remaining values all are written
 abbrev pub invariant-loop-word : goal.invariant-loop-word
 invariant-loop-word g l =
     let took = g.W.Write.write_str_gives in

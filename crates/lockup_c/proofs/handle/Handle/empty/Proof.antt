@@ -1,4 +1,4 @@
--- A null pointer beside the allocator's handle owns nothing.
+-- A null pointer together with the allocator's handle owns nothing.
 use mathlib.Core.Path.{refl, sym, subst}
 use mathlib.Core.List.{List, [], ◌∷◌, ◌++◌}
 use seplogic.Ra.Ura.{Ura}

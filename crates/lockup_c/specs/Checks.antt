@@ -8,8 +8,8 @@ use Rattle.lockup_c.specs.declared.held.Held.{Held}
 use Rattle.lockup_c.specs.declared.held.Held.TheVariants as helds
 use Rattle.lockup_c.specs.declared.structs.EntryNumbers.{EntryNumbers}
 use Rattle.lockup_c.specs.declared.structs.VerdictNumbers.{VerdictNumbers}
-use Rattle.simulator.specs.Judge.{MayBegin, Stands}
-use Rattle.simulator.specs.declared.judge.TraceJudge.{TraceJudge}
+use Rattle.trace_check.specs.SoFar.{MayBegin, Stands}
+use Rattle.trace_check.specs.declared.trace_judge.TraceJudge.{TraceJudge}
 use Rattle.slice_log.specs.Log.{initially}
 use Rattle.slice_log.specs.declared.entry.Entry.{Entry}
 use Rattle.trace_check.specs.Verdict.{IsVerdict}

@@ -11,10 +11,9 @@ use super::held::Held;
 use super::names::op_named;
 use super::structs::{EntryNumbers, VerdictNumbers};
 use address_map::{CoreId, WordAddr};
-use simulator::TraceJudge;
 use slice_log::Entry;
 use std::alloc::Global;
-use trace_check::{MOST_CORES, MOST_WORDS, Reason, Verdict};
+use trace_check::{MOST_CORES, MOST_WORDS, Reason, TraceJudge, Verdict};
 
 /// How many tags a core has.
 const TAGS: u64 = 64;

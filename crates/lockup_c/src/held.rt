@@ -1,5 +1,6 @@
 use super::histories::JudgedHistories;
-use simulator::{Simulator, TraceJudge};
+use simulator::Simulator;
+use trace_check::TraceJudge;
 
 /// What a handle may have.
 #[derive(Drop)]

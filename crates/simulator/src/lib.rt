@@ -4,17 +4,14 @@
 //!   contract says the promise of the slice's own call again (`slice_core_spec`); the others say what a call would do,
 //!   which cell of the protocol's tables it would meet (specs/Cells.antt), and what there is. [`Simulator::build`] takes
 //!   what the lines of a script configure.
-//! - [`TraceJudge`] judges a trace entry by entry, as it comes.
 //!
 //! Only these allocate: [`Simulator::build`], [`Simulator::issue`], [`Simulator::begin_log`], [`Simulator::register_at`],
 //! [`Simulator::core_lines`], [`Simulator::set_lines`], and the calls of [`TraceJudge`].
 #![tactic(auto)]
 
-pub use judge::TraceJudge;
 pub use looks::MissRegister;
 pub use simulator::Simulator;
 
 mod cells;
-mod judge;
 mod looks;
 mod simulator;

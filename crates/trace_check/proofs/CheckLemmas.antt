@@ -13,6 +13,7 @@ use Rattle.slice_log.specs.Log.{initially}
 use Rattle.slice_log.specs.declared.entry.Entry.{Entry}
 use Rattle.trace_check.specs.declared.judge.Judge.{Judge}
 use Rattle.trace_check.specs.declared.check.Check.{Check}
+use Rattle.trace_check.specs.declared.trace_judge.TraceJudge.{TraceJudge}
 use Rattle.trace_check.specs.declared.verdict.Reason.{Reason}
 use Rattle.trace_check.specs.declared.verdict.Verdict.TheVariants as verdicts
 use Rattle.trace_check.specs.declared.trace_line.Version.{Version}
@@ -22,7 +23,8 @@ use Rattle.trace_check.specs.declared.trace_line.TraceLine.TheVariants as trace_
 use Rattle.trace_check.specs.Verdict.{IsVerdict, IsWrong}
 use Rattle.trace_check.specs.Judge.{Knows}
 use Rattle.trace_check.specs.TraceLine.{IsLineOf, cores_of}
-use Rattle.trace_check.specs.Trace.{AreLines, body_of, IsLastNamed, IsSoFar, HasRead, MayBegin, IsReading}
+use Rattle.trace_check.specs.SoFar.{IsLastNamed, IsSoFar, MayBegin, Stands}
+use Rattle.trace_check.specs.Trace.{AreLines, body_of, IsReading}
 use Rattle.trace_check.proofs.SeqLemmas.{slice_get-append, slice_get-last}
 
 -- the first entry at fault stays so, whatever comes after it
@@ -112,12 +114,12 @@ so_far_named judge now was is None named h = named h
 so_far_named judge now was is (Some f) named h = let at : slice_get [] f.0 ≡ Some h.2.0 = h.2.1 in cc
 
 -- one more word is given a value to begin with
-pub stands-begin : (was now : Check) (init : List (WordAddr × ℕ)) (word : WordAddr) (v : ℕ) → MayBegin was word
+pub stands-begin : (was now : TraceJudge) (init : List (WordAddr × ℕ)) (word : WordAddr) (v : ℕ) → MayBegin was word
     → now.last ≡ Some word
     → now.entries ≡ was.entries → now.fault ≡ was.fault
     → (All (λ pair. pair.0.0 < word.0) init → Knows was.judge (initially init) []
     → Knows now.judge (initially (init ++ (word, v) ∷ [])) [])
-    → HasRead was init [] → HasRead now (init ++ (word, v) ∷ []) []
+    → Stands was init [] → Stands now (init ++ (word, v) ∷ []) []
 stands-begin was now init word v may last entries fault named stands =
     let below = named_above was.last init word stands.last stands.ascending may.above in
     record {
@@ -146,11 +148,11 @@ no_entries (e ∷ entries) n count none = absurd (omega arith)
 -- a line that names a word's value was read
 pub reading-begin : (was now : Check) (all left : List (ℕ × List (List ℕ))) (s : ℕ × List (List ℕ)) (word : WordAddr)
     (v : ℕ)
-    → now.version ≡ was.version → MayBegin was word → IsLineOf was.version s.1 (trace_lines.Init word v)
-    → ((init : List (WordAddr × ℕ)) → HasRead was init [] → HasRead now (init ++ (word, v) ∷ []) [])
+    → now.version ≡ was.version → MayBegin was.trace word → IsLineOf was.version s.1 (trace_lines.Init word v)
+    → ((init : List (WordAddr × ℕ)) → Stands was.trace init [] → Stands now.trace (init ++ (word, v) ∷ []) [])
     → IsReading was all (s ∷ left) → IsReading now all left
 reading-begin was now all left s word v same may line stands reading =
-    let none : reading.entries ≡ [] = no_entries reading.entries was.entries reading.stands.count may.early in
+    let none : reading.entries ≡ [] = no_entries reading.entries was.trace.entries reading.stands.count may.early in
     let written : AreLines was.version reading.done (body_of reading.init []) = rw none at reading.written in
     let more =
     AreLines-push was.version reading.done (body_of reading.init []) s (trace_lines.Init word v) written line in
@@ -169,8 +171,8 @@ reading-begin was now all left s word v same may line stands reading =
 -- an entry was read
 pub reading-judge : (was now : Check) (all left : List (ℕ × List (List ℕ))) (s : ℕ × List (List ℕ)) (e : Entry)
     → now.version ≡ was.version → IsLineOf was.version s.1 (trace_lines.Entry e)
-    → ((init : List (WordAddr × ℕ)) (entries : List Entry) → HasRead was init entries
-    → HasRead now init (entries ++ e ∷ []))
+    → ((init : List (WordAddr × ℕ)) (entries : List Entry) → Stands was.trace init entries
+    → Stands now.trace init (entries ++ e ∷ []))
     → IsReading was all (s ∷ left) → IsReading now all left
 reading-judge was now all left s e same line stands reading =
     let more =
@@ -189,7 +191,7 @@ reading-judge was now all left s e same line stands reading =
     }
 
 -- nothing was read yet
-pub reading-none : (check : Check) (all : List (ℕ × List (List ℕ))) → HasRead check [] [] → IsReading check all all
+pub reading-none : (check : Check) (all : List (ℕ × List (List ℕ))) → Stands check.trace [] [] → IsReading check all all
 unfolding AreLines
 reading-none check all stands =
     record { init = []; entries = []; done = []; split = refl; written = tt; stands = stands }

@@ -19,8 +19,8 @@ use Rattle.trace_check.specs.declared.trace_line.TraceLine.{TraceLine}
 use Rattle.trace_check.specs.declared.trace_line.TraceLine.TheVariants as trace_lines
 use Rattle.trace_check.specs.TraceLine.{IsLineOf, parts_of_first, parts_of_line}
 use Rattle.trace_check.specs.Trace.{AreLines, IsFaultAt, body_of, AreTrace, AreNoTrace, AreSomeTrace, IsNoTrace}
-use Rattle.trace_check.specs.Trace.{IsLastNamed, IsNoMemoryOrLine, IsNoNextLine, IsReading, MayBegin, MayFollow}
-use Rattle.trace_check.specs.Trace.{HasRead, IsNextWord}
+use Rattle.trace_check.specs.SoFar.{IsLastNamed, MayBegin, Stands}
+use Rattle.trace_check.specs.Trace.{IsNextWord, IsNoMemoryOrLine, IsNoNextLine, IsReading, MayFollow}
 use Rattle.trace_check.proofs.ReadingLemmas.{one_version, one_line, same_lines, not_both}
 
 -- the word and the value that a line names, where it names them
@@ -31,7 +31,7 @@ named (trace_lines.Entry e) = None
 -- where a line that the words write may come next, so may a word's value that they write
 pub may_begin : (check : Check) (ws : List (List ℕ)) (word : WordAddr) (value : ℕ) (line : TraceLine)
     → Writes ws (parts_of_line (trace_lines.Init word value)) → Writes ws (parts_of_line line) → MayFollow check line
-    → MayBegin check word
+    → MayBegin check.trace word
 unfolding MayFollow
 may_begin check ws word value (trace_lines.Entry e) h k may =
     absurd (not_both word value e (one_line ws (trace_lines.Init word value) (trace_lines.Entry e) h k))
@@ -39,7 +39,7 @@ may_begin check ws word value (trace_lines.Init w v) h k may =
     let both : trace_lines.Init word value ≡ trace_lines.Init w v =
     one_line ws (trace_lines.Init word value) (trace_lines.Init w v) h k in
     let same : word ≡ w = cc in
-    subst (MayBegin check) (sym same) may
+    subst (MayBegin check.trace) (sym same) may
 
 -- lines that are before a statement's, the line that it writes, and those after it
 record Parts (version : Version) (done : List (ℕ × List (List ℕ))) (s : ℕ × List (List ℕ))
@@ -136,7 +136,7 @@ last_below (Some l) init more p is ascending =
 -- the line of a trace after those that were read may come next
 may_follow : (check : Check) (init all : List (WordAddr × ℕ)) (entries more : List Entry)
     (before after : List TraceLine) (line : TraceLine)
-    → HasRead check init entries → IsAscendingBy (λ pair. pair.0.0) all
+    → Stands check.trace init entries → IsAscendingBy (λ pair. pair.0.0) all
     → map named before ≡ map named (body_of init entries)
     → body_of all more ≡ before ++ line ∷ after → MayFollow check line
 unfolding MayFollow
@@ -149,7 +149,7 @@ may_follow check init all entries more before after (trace_lines.Init word value
     ∙ ap (λ xs. xs ++ Some (word, value) ∷ map named after) (same ∙ named_lines init entries)) in
     record {
       early = stands.count ∙ ap length next.early;
-      above = last_below check.last init next.more (word, value) stands.last
+      above = last_below check.trace.last init next.more (word, value) stands.last
           (subst (λ xs. IsAscendingBy (λ pair. pair.0.0) xs) next.shape ascending);
     }
 
@@ -262,8 +262,8 @@ above_last (Some l) init word is above = above is.0 l is.1.0 is.1.1
 
 -- a word that may be given a value after what was read may be given one next
 next_word : (check : Check) (init : List (WordAddr × ℕ)) (entries : List Entry) (word : WordAddr)
-    → HasRead check init entries → IsNextWord init entries word → MayBegin check word
+    → Stands check.trace init entries → IsNextWord init entries word → MayBegin check.trace word
 next_word check init entries word stands next = record {
   early = stands.count ∙ ap length next.early;
-  above = above_last check.last init word stands.last next.above;
+  above = above_last check.trace.last init word stands.last next.above;
 }

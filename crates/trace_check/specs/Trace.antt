@@ -1,5 +1,5 @@
 -- What the text of a trace is.
-use Rattle.std.specs.Prelude.{◌≡◌, ◌⊎◌, ℕ, List, [], ◌∷◌, ◌++◌, map, length, ◌<◌, IfSome, Option, Some, None, codes}
+use Rattle.std.specs.Prelude.{◌≡◌, ◌⊎◌, ℕ, List, [], ◌∷◌, ◌++◌, map, length, ◌<◌, codes}
 use Rattle.std.specs.Str.Lines.{lines}
 use Rattle.address_map.specs.declared.address.WordAddr.{WordAddr}
 use Rattle.address_map.specs.Words.{IsAscendingBy}
@@ -15,14 +15,11 @@ use Rattle.litmus_text.specs.declared.fault.TextFault.TheVariants as text_faults
 use Rattle.trace_check.specs.declared.trace_line.Version.{Version}
 use Rattle.trace_check.specs.declared.trace_line.TraceLine.{TraceLine}
 use Rattle.trace_check.specs.declared.trace_line.TraceLine.TheVariants as trace_lines
-use Rattle.trace_check.specs.declared.judge.Judge.{Judge}
-use Rattle.trace_check.specs.declared.verdict.Reason.{Reason}
 use Rattle.trace_check.specs.declared.verdict.Verdict.{Verdict}
-use Rattle.trace_check.specs.declared.verdict.Verdict.TheVariants as verdicts
 use Rattle.trace_check.specs.declared.check.Check.{Check}
 use Rattle.trace_check.specs.TraceLine.{BeginsWith, IsFaultOfLine, IsLineOf, IsNoFirstLine, parts_of_first}
 use Rattle.trace_check.specs.Verdict.{IsVerdict}
-use Rattle.trace_check.specs.Judge.{Knows}
+use Rattle.trace_check.specs.SoFar.{MayBegin, Stands}
 
 -- each statement, a number and words, is written as the line at its place
 unfoldable pub AreLines : Version → List (ℕ × List (List ℕ)) → List TraceLine → Type 0
@@ -89,31 +86,9 @@ IsFaultAt (first ∷ rest) number =
     ((number ≡ first.0) × IsNoFirstLine first.1)
     ⊎ ((version : Version) × Writes first.1 (parts_of_first version) × IsFirstFault (AreSomeTrace version) rest number)
 
--- the word that was named last
-abbrev pub IsLastNamed : Option WordAddr → List (WordAddr × ℕ) → Type 0
-IsLastNamed None init = init ≡ []
-IsLastNamed (Some last) init = (before : List (WordAddr × ℕ)) × ((value : ℕ) × (init ≡ before ++ (last, value) ∷ []))
-
--- what the entries so far came to: a log that the judge knows, or a first entry at fault
-unfoldable pub IsSoFar : Judge → (ℕ → ℕ) → List Entry → Option (ℕ × Reason) → Type 0
-IsSoFar judge initial entries None = Knows judge initial entries
-IsSoFar judge initial entries (Some fault) = IsVerdict initial entries (verdicts.Illegal fault.0 fault.1)
-
--- what is kept of the initial values and the entries that were read
-pub record HasRead (check : Check) (init : List (WordAddr × ℕ)) (entries : List Entry) : Type 0 where
-  pub ascending : IsAscendingBy (λ pair. pair.0.0) init
-  pub last : IsLastNamed check.last init
-  pub count : check.entries ≡ length entries
-  pub so_far : IsSoFar check.judge (initially init) entries check.fault
-
--- a word that may be named next
-pub record MayBegin (check : Check) (word : WordAddr) : Type 0 where
-  pub early : check.entries ≡ 0
-  pub above : IfSome check.last (λ last. last.0 < word.0)
-
 -- a line that may come next
 unfoldable pub MayFollow : Check → TraceLine → Type 0
-MayFollow check (trace_lines.Init word value) = MayBegin check word
+MayFollow check (trace_lines.Init word value) = MayBegin check.trace word
 MayFollow check (trace_lines.Entry entry) = Unit {0}
 
 -- the words write no line that may come next
@@ -127,7 +102,7 @@ pub record IsReading (check : Check) (all left : List (ℕ × List (List ℕ))) 
   pub done : List (ℕ × List (List ℕ))
   pub split : done ++ left ≡ all
   pub written : AreLines check.version done (body_of init entries)
-  pub stands : HasRead check init entries
+  pub stands : Stands check.trace init entries
 
 -- statements of a trace whose entries come to this
 pub record AreJudged (version : Version) (statements : List (ℕ × List (List ℕ))) (verdict : Verdict) : Type 0 where

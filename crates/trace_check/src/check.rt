@@ -1,4 +1,4 @@
-ghost use Rattle.std.specs.Prelude.{◌≡◌, ℕ, ◌<◌, List, [], ◌∷◌, ◌++◌, map, length, IfOk, IfErr, OnOk, IsTrue, ◌↔◌};
+ghost use Rattle.std.specs.Prelude.{◌≡◌, ℕ, ◌<◌, List, [], ◌∷◌, ◌++◌, map, length, IfOk, IfErr, OnOk};
 ghost use Rattle.std.specs.Str.Lines.{lines};
 ghost use Rattle.address_map.specs.declared.address.WordAddr.{WordAddr};
 ghost use Rattle.litmus_text.specs.Fault.{IsAtLine, IsFirstFault};
@@ -14,28 +14,23 @@ ghost use Rattle.trace_check.specs.declared.trace_line.Version.TheVariants as ve
 ghost use Rattle.trace_check.specs.declared.verdict.Reason.TheVariants as reasons;
 ghost use Rattle.trace_check.specs.declared.verdict.Verdict.TheVariants as verdicts;
 ghost use Rattle.trace_check.specs.Trace.{IsJudged, IsTrace, AreJudged, IsFaultAt, IsNoTrace, AreNoTrace, AreSomeTrace};
-ghost use Rattle.trace_check.specs.Trace.{IsNoMemoryOrLine, IsNoNextLine, IsReading, IsSoFar, HasRead, MayBegin};
+ghost use Rattle.trace_check.specs.SoFar.{MayBegin, Stands};
+ghost use Rattle.trace_check.specs.Trace.{IsNoMemoryOrLine, IsNoNextLine, IsReading};
 ghost use Rattle.trace_check.specs.Trace.{IsFaultAmong, IsFaultNext, IsFaultOfTrace, IsOfLine, MayFollow};
 
-use super::judge::Judge;
+use super::trace_judge::TraceJudge;
 use super::trace_line::{TraceLine, Version, begins_with};
-use super::verdict::{Reason, Verdict};
+use super::verdict::Verdict;
 use address_map::WordAddr;
 use litmus_text::{LineFault, Statement, Statements, TextFault};
 use slice_log::Entry;
-use std::alloc::{AllocError, Global};
+use std::alloc::Global;
 
 /// What was read of a trace.
 #[derive(Drop)]
 struct Check {
     version: Version,
-    judge: Judge,
-    /// The last word that was given a value to begin with.
-    last: Option<WordAddr>,
-    /// How many entries were read.
-    entries: usize,
-    /// The first entry at fault, and why.
-    fault: Option<(usize, Reason)>,
+    trace: TraceJudge,
 }
 
 /// Judges a trace. The whole text is read first, so a faulty line counts before an entry at fault. The only faults are
@@ -85,20 +80,17 @@ fn check_lines(
     'lines: while statements.read(&mut statement) {
         check.take(&statement)?;
     }
-    Ok(check.verdict())
+    Ok(check.trace.verdict())
 }
 
 impl Check {
     fn new(alloc: Global, version: Version) -> Self
-        ensures stands { HasRead result [] [] }
+        ensures stands { Stands result.trace [] [] }
         ensures version { result.version ≡ version }
     {
         Check {
             version,
-            judge: Judge::new(alloc),
-            last: None,
-            entries: 0,
-            fault: None,
+            trace: TraceJudge::new(alloc),
         }
     }
 
@@ -111,7 +103,7 @@ impl Check {
             (IsNoNextLine self.old (map (λ w. w.now) statement.now.words.items))) }
         ensures line { IfErr result (IsAtLine (λ number. number ≡ statement.now.number)) }
         ensures fault { IfErr result (IsOfLine (λ number fault. (number ≡ statement.now.number)
-            × IsFaultNext (0 < self.old.entries) (MayBegin self.old) self.old.version
+            × IsFaultNext (0 < self.old.trace.entries) (MayBegin self.old.trace) self.old.version
             (map (λ w. w.now) statement.now.words.items) fault)) }
         ensures version { self.new.version ≡ self.old.version }
     {
@@ -128,95 +120,45 @@ impl Check {
         ensures written { IfOk result (IsLineOf self.now.version (map (λ w. w.now) words.now)) }
         ensures follows { IfOk result (MayFollow self.now) }
         ensures refused { IfErr result (λ fault. IsNoNextLine self.now (map (λ w. w.now) words.now)) }
-        ensures fault { IfErr result (IsFaultNext (0 < self.now.entries) (MayBegin self.now) self.now.version
+        ensures fault { IfErr result (IsFaultNext (0 < self.now.trace.entries) (MayBegin self.now.trace) self.now.version
             (map (λ w. w.now) words.now)) }
     {
         match TraceLine::parse(self.version, words) {
-            Ok(TraceLine::Init(word, value)) if self.may_begin(word) => {
+            Ok(TraceLine::Init(word, value)) if self.trace.may_begin(word) => {
                 Ok(TraceLine::Init(word, value))
             }
             Ok(TraceLine::Init(..)) => Err(LineFault::NotACommand),
             Ok(TraceLine::Entry(entry)) => Ok(TraceLine::Entry(entry)),
             // it would be in the wrong place also if it were well formed
-            Err(_) if self.entries > 0 && begins_with(words, b"init") => {
+            Err(_) if self.trace.entries > 0 && begins_with(words, b"init") => {
                 Err(LineFault::NotACommand)
             }
             Err(fault) => Err(fault),
         }
     }
 
-    // Whether the word may be the next that is given a value to begin with.
-    fn may_begin(&self, word: WordAddr) -> bool
-        ensures { IsTrue result ↔ MayBegin self.now word }
-    {
-        let is_above = match self.last {
-            Some(last) => last.0 < word.0,
-            None => true,
-        };
-        is_above && self.entries == 0
-    }
-
     fn begin(&mut self, word: WordAddr, value: u64) -> Result<(), TextFault>
         requires word { word.0 < MOST_WORDS }
-        requires place { MayBegin self.old word }
+        requires place { MayBegin self.old.trace word }
         ensures stands { OnOk result
-            ((init : List (WordAddr × ℕ)) → HasRead self.old init []
-            → HasRead self.new (init ++ (word, value) ∷ []) []) }
+            ((init : List (WordAddr × ℕ)) → Stands self.old.trace init []
+            → Stands self.new.trace (init ++ (word, value) ∷ []) []) }
         ensures refused { IfErr result (λ fault. fault ≡ TextFault.NoMemory) }
         ensures version { self.new.version ≡ self.old.version }
     {
-        self.judge.begin(word, value)?;
-        self.last = Some(word);
+        self.trace.begin(word, value)?;
         Ok(())
     }
 
     fn judge(&mut self, entry: &Entry) -> Result<(), TextFault>
         requires { IsNameable entry.now }
         ensures stands { OnOk result
-            ((init : List (WordAddr × ℕ)) (entries : List Entry) → HasRead self.old init entries
-            → HasRead self.new init (entries ++ entry.now ∷ [])) }
+            ((init : List (WordAddr × ℕ)) (entries : List Entry) → Stands self.old.trace init entries
+            → Stands self.new.trace init (entries ++ entry.now ∷ [])) }
         ensures refused { IfErr result (λ fault. fault ≡ TextFault.NoMemory) }
         ensures version { self.new.version ≡ self.old.version }
     {
-        // 2^64 entries fit no memory
-        let Some(entries) = self.entries.checked_add(1) else {
-            return Err(TextFault::NoMemory);
-        };
-        self.step(entry)?;
-        self.entries = entries;
+        self.trace.take(entry)?;
         Ok(())
-    }
-
-    // Judges one more entry, up to the first at fault.
-    fn step(&mut self, entry: &Entry) -> Result<(), AllocError>
-        requires { IsNameable entry.now }
-        ensures so_far { OnOk result
-            ((initial : ℕ → ℕ) (entries : List Entry) → self.old.entries ≡ length entries
-            → IsSoFar self.old.judge initial entries self.old.fault
-            → IsSoFar self.new.judge initial (entries ++ entry.now ∷ []) self.new.fault) }
-        ensures version { self.new.version ≡ self.old.version }
-        ensures last { self.new.last ≡ self.old.last }
-        ensures entries { self.new.entries ≡ self.old.entries }
-    {
-        if let Some(_) = self.fault {
-            return Ok(());
-        }
-        match self.judge.fault(self.entries, entry) {
-            Some(reason) => {
-                self.fault = Some((self.entries, reason));
-                Ok(())
-            }
-            None => self.judge.take(entry),
-        }
-    }
-
-    fn verdict(&self) -> Verdict
-        ensures { (init : List (WordAddr × ℕ)) (entries : List Entry) → HasRead self.now init entries
-            → IsVerdict (initially init) entries result }
-    {
-        match self.fault {
-            Some((entry, reason)) => Verdict::Illegal(entry, reason),
-            None => Verdict::Legal(self.entries),
-        }
     }
 }

@@ -10,7 +10,7 @@
 //! - [`TraceLine`] is a line of a trace. At Ok of [`TraceLine::parse`] the words write that line, and it names only
 //!   what a trace of this version can; they are refused only where they write no such line, and the fault is what is
 //!   wrong with them (`IsFaultOfLine` in specs/TraceLine.antt).
-//! - [`Judge`] has the value of each word and the greatest seq of each core and line (specs/Judge.antt), so an entry is
+//! - [`TraceJudge`] judges a trace entry by entry, as it comes (`Stands` in specs/SoFar.antt). [`Judge`] has the value of each word and the greatest seq of each core and line (specs/Judge.antt), so an entry is
 //!   judged without a look at earlier ones.
 //!
 //! `check_trace` goes over the text once and keeps no entry. Its memory grows with the greatest word that is named, and
@@ -19,6 +19,7 @@
 
 pub use check::{check_trace, none_by_since, one_judgement};
 pub use judge::{Judge, MOST_CORES, MOST_WORDS, one_verdict};
+pub use trace_judge::TraceJudge;
 pub use trace_line::{MOST_TAGS, TraceLine, Version};
 pub use verdict::{Reason, Verdict};
 
@@ -26,5 +27,6 @@ mod check;
 mod judge;
 mod latest;
 mod slots;
+mod trace_judge;
 mod trace_line;
 mod verdict;

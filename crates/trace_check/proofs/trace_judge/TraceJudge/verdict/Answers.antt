@@ -1,5 +1,5 @@
 use Rattle.trace_check.proofs.CheckLemmas.{verdict_illegal, verdict_legal}
-use Rattle.simulator.proofs.judge.TraceJudge.verdict.Goals as goal
+use Rattle.trace_check.proofs.trace_judge.TraceJudge.verdict.Goals as goal
 
 pub returns-in-Some : goal.returns-in-Some
 returns-in-Some c =

@@ -1,6 +1,6 @@
 use Rattle.std.proofs.Common.{refl, arith}
-use Rattle.trace_check.specs.Trace.{IsSoFar}
-use Rattle.simulator.proofs.judge.TraceJudge.new.Goals as goal
+use Rattle.trace_check.specs.SoFar.{IsSoFar}
+use Rattle.trace_check.proofs.trace_judge.TraceJudge.new.Goals as goal
 
 pub returns : goal.returns
 unfolding IsSoFar

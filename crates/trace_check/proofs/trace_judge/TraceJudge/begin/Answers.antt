@@ -1,8 +1,8 @@
 use Rattle.std.proofs.Common.{refl}
 use Rattle.trace_check.proofs.CheckLemmas.{stands-begin}
-use Rattle.trace_check.proofs.check.Check.begin.Goals as goal
+use Rattle.trace_check.proofs.trace_judge.TraceJudge.begin.Goals as goal
 
-pub returns-clause-stands : goal.returns-clause-stands
-returns-clause-stands c = λ init stands.
+pub returns : goal.returns
+returns c = λ init stands.
     stands-begin c.args.self.now _ init c.args.word c.args.value c.requires.place refl refl refl
     (c.in_ok-begin.ensures init) stands

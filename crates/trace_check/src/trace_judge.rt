@@ -1,17 +1,17 @@
 ghost use Rattle.std.specs.Prelude.{◌≡◌, ◌<◌, ◌↔◌, ◌++◌, ℕ, List, [], ◌∷◌, length, IfErr, IsTrue, OnErr, OnOk};
 ghost use Rattle.address_map.specs.declared.address.WordAddr.{WordAddr};
-ghost use Rattle.simulator.specs.Judge.{MayBegin, Stands};
 ghost use Rattle.slice_log.specs.Log.{initially};
 ghost use Rattle.slice_log.specs.declared.entry.Entry.{Entry};
 ghost use Rattle.trace_check.specs.Judge.{IsNameable};
-ghost use Rattle.trace_check.specs.Trace.{IsSoFar};
+ghost use Rattle.trace_check.specs.SoFar.{IsSoFar, MayBegin, Stands};
 ghost use Rattle.trace_check.specs.Verdict.{IsVerdict};
 ghost use Rattle.trace_check.specs.declared.judge.TheConstants.{MOST_WORDS};
 
+use super::judge::Judge;
+use super::verdict::{Reason, Verdict};
 use address_map::WordAddr;
 use slice_log::Entry;
 use std::alloc::{AllocError, Global};
-use trace_check::{Judge, Reason, Verdict};
 
 /// A trace that is judged entry by entry.
 #[derive(Drop)]
@@ -20,7 +20,7 @@ pub struct TraceJudge {
     /// The last word that was given a value to begin with.
     last: Option<WordAddr>,
     /// How many entries there were.
-    entries: usize,
+    pub(super) entries: usize,
     /// The first wrong entry, and why.
     fault: Option<(usize, Reason)>,
 }

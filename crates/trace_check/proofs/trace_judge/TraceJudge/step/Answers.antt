@@ -1,6 +1,6 @@
 use Rattle.std.proofs.lemmas.Result.{on_ok_weaker}
 use Rattle.trace_check.proofs.CheckLemmas.{step_behind, step_wrong, step_right}
-use Rattle.trace_check.proofs.check.Check.step.Goals as goal
+use Rattle.trace_check.proofs.trace_judge.TraceJudge.step.Goals as goal
 
 pub returns-in-Some-clause-so_far : goal.returns-in-Some-clause-so_far
 returns-in-Some-clause-so_far c = λ initial entries count so_far.

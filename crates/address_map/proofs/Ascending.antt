@@ -37,7 +37,7 @@ pub ascending-rises : {X : Type 0} (n : X → ℕ) (xs : List X) → IsAscending
 ascending-rises n xs ascending i j d below inside =
     ⊎_elim (λ same. rw same (omega arith)) (λ apart. omega (arith, ascending i j d (omega arith) inside)) (cases_eq i j)
 
--- what `is_sorted_by` answers: that all neighbours ascend, or a place where they don't
+-- what `is_sorted_by` returns: that all neighbours ascend, or a place where they don't
 test-all_adjacent : {X : Type 0} (n : X → ℕ) (xs : List X)
     → AllAdjacentBelow (λ a b. true ≡ nat_lt (n a) (n b)) xs (length xs) → is_ascending_by n xs ≡ true
 test-all_adjacent n [] adjacent = refl

@@ -42,7 +42,7 @@ same_from_has set other same =
           | inr none ↦ let apart = eqb-false a 1 (e ∙ none.0) in omega (arith, apart, none.1)
         ]
 
--- the set in which there is no core is 0
+-- the empty set is 0
 pub zero-from_none : (set : ℕ) → ((core : ℕ) → has set core ≡ false) → set ≡ 0
 zero-from_none set none = same_from_has set 0 (λ core. none core ∙ sym (has-zero core))
 

@@ -15,7 +15,7 @@ use Rattle.address_map.specs.Words.{is_ascending_by, IsAscendingBy, are_words_be
 use Rattle.address_map.proofs.Ascending.{IsAscendingBy-from_test}
 use Rattle.address_map.proofs.Find.{All-from_find_none}
 
--- Where no field is at fault, the field at each place of the order passes, so each one does.
+-- Where no field is invalid, the field at each place of the order passes, so each one does.
 passes-at : (c : Config) → first_fault c ≡ None
     → (k : ℕ) (d : ConfigError) → k < length fields → allows c (get_or fields k d) ≡ true
 passes-at c none k d inside =

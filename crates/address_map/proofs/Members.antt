@@ -24,7 +24,7 @@ filter-same zero a s t same = refl
 filter-same (suc n) a s t same =
     branch _ _ a _ _ (same a (omega arith)) (filter-same n (a + 1) s t (λ i from. same i (omega arith)))
 
--- the lowest core of a set stands first, and the others are those of the set without it
+-- the lowest core of a set comes first, and the others are those of the set without it
 filter-lowest : (n a s t : ℕ) → a ≤ t → t < a + n → has s t ≡ true → ((i : ℕ) → i < t → has s i ≡ false)
     → filter (has s) (range_with_len a n) ≡ t ∷ filter (has (without s t)) (range_with_len a n)
 filter-lowest zero a s t from within there lowest = absurd (omega arith)

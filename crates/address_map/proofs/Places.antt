@@ -8,7 +8,7 @@ use Rattle.address_map.specs.declared.place.Place.{Place}
 use Rattle.address_map.specs.Config.{IsAllowed, word_count}
 use Rattle.address_map.specs.Place.{place_of, word_at, IsInRange}
 
--- Each slice has as many lines as the next, so the lines of all slices are all lines.
+-- All slices have the same number of lines, so the lines of all slices are all lines.
 dealt_line-lt : (lines slices local slice : ℕ) → lines % slices ≡ 0
     → local < lines / slices → slice < slices → local * slices + slice < lines
 dealt_line-lt lines slices local slice even inside below =

@@ -42,7 +42,7 @@ is_within least most n = nat_le least n && nat_le n most
 abbrev pub allows : Config → ConfigError → Bool
 allows c config_errors.Cores = is_within 1 64 c.cores
 allows c config_errors.Slices = c.slices == 1 || c.slices == 2 || c.slices == 4
--- as many lines in each slice
+-- the same number of lines in each slice
 allows c config_errors.Lines = is_within 1 65536 c.lines && (c.lines % c.slices == 0)
 allows c config_errors.Sets = is_power_of_two c.sets && is_within 1 256 c.sets
 allows c config_errors.Ways = is_within 1 16 c.ways
@@ -53,7 +53,7 @@ allows c config_errors.Init = are_words_below (λ pair. pair.0.0) (word_count c)
 allows c config_errors.Counters = nat_le (length c.counters) 8
     && are_words_below (λ word. word.0) (word_count c) c.counters
 
--- the fields that can be at fault, in the order in which they are judged
+-- the fields that can be invalid, in the order in which they are judged
 abbrev pub fields : List ConfigError
 fields =
     config_errors.Cores ∷ config_errors.Slices ∷ config_errors.Lines ∷ config_errors.Sets ∷ config_errors.Ways
@@ -73,15 +73,15 @@ text_of_error config_errors.Writebacks = codes "8 Writebacks"
 text_of_error config_errors.Init = codes "9 Init"
 text_of_error config_errors.Counters = codes "10 Counters"
 
--- the first field at fault
+-- the first invalid field
 abbrev pub first_fault : Config → Option ConfigError
 first_fault c = find (λ field. not (allows c field)) fields
 
--- the configuration itself, or its first field at fault
+-- the configuration itself, or its first invalid field
 abbrev pub checked_of : Config → Result Config ConfigError
 checked_of c = option_map_or (λ fault. Err fault) (first_fault c) (Ok c)
 
--- so many slices a machine may have
+-- the numbers of slices that a machine may have
 unfoldable pub IsSliceCount : ℕ → Type 0
 IsSliceCount n = (n ≡ 1) ⊎ (n ≡ 2) ⊎ (n ≡ 4)
 

@@ -1,4 +1,4 @@
--- Where the lines of one slice stand: lines are dealt out to the slices in turn.
+-- Where the lines of one slice are: lines are dealt out to the slices in turn.
 use Rattle.std.specs.Prelude.{◌≡◌, ◌⊎◌, ◌≤◌, ◌<◌, ℕ, ◌+◌, ◌*◌, ◌/◌, ◌%◌, ◌==◌, ◌&&◌, nat_lt, nat_le, Bool}
 use Rattle.std.specs.Prelude.{if◌then◌else◌, Option, Some, None}
 use Rattle.address_map.specs.declared.address.WordAddr.{WordAddr}

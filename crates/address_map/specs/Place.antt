@@ -1,4 +1,4 @@
--- Where a word stands: lines are dealt out to the slices in turn, and each slice numbers its own lines from 0.
+-- Where a word is: lines are dealt out to the slices in turn, and each slice numbers its own lines from 0.
 use Rattle.std.specs.Prelude.{ℕ, ◌<◌, ◌+◌, ◌*◌, ◌/◌, ◌%◌, ◌==◌, nat_lt, if◌then◌else◌, filter, Bool, List, Option, Some}
 use Rattle.std.specs.Prelude.{None}
 use Rattle.address_map.specs.declared.address.WordAddr.{WordAddr}

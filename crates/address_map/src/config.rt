@@ -7,10 +7,10 @@ use std::error::Error;
 use std::fmt;
 use std::marker::Model;
 
-/// The most cores that a machine may have: as many as a set of them in 64 bits can hold.
+/// The most cores that a machine may have: a set of them is 64 bits.
 pub const MOST_CORES: u64 = 64;
 
-/// The field of a configuration that was refused: the first one at fault, in this order.
+/// The field of a configuration that was refused: the first invalid one, in this order.
 #[derive(Clone, Copy, Debug, PartialEq, Eq)]
 pub enum ConfigError {
     Cores,
@@ -81,7 +81,7 @@ pub struct Config {
     pub writebacks: u64,
     /// The replacement policy of all arrays.
     pub policy: PolicyKind,
-    /// Whether a core that asks to read a line that nobody has is given the only copy (state E). It can't be at fault.
+    /// Whether a core that asks to read a line that no core has is given the only copy (state E). It is always valid.
     pub exclusive: bool,
     /// What memory begins with: words of it, strictly ascending.
     pub init: InitialValues,
@@ -131,7 +131,7 @@ impl Config {
         }
     }
 
-    /// Takes no memory. A configuration that is refused is dropped.
+    /// Allocates nothing. A configuration that is refused is dropped.
     pub fn check(self) -> Result<Checked, ConfigError>
         ensures value { result ≡ checked_of self }
         ensures allowed { OnOk result (IsAllowed self) }

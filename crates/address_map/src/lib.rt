@@ -3,7 +3,7 @@
 //! Memory is an array of words of 64 bits. Eight words are a line, and lines are dealt out to the slices in turn.
 //! `split` finds the place of a word and `join` the word at a place, and each one's contract says that the other undoes
 //! it. A `Locator` does so for the lines of one slice, by a shift and a mask. A `CoreSet` is a set of the cores 0 to
-//! 63, and each of its calls takes a few instructions. `Config::check` answers the first field at fault, or a
+//! 63, and each of its calls takes a few instructions. `Config::check` returns the first invalid field, or a
 //! `Checked`, whose getters say what it may be relied on for (`IsAllowed` in `specs/Config.antt`). Only naming an
 //! initial value or a counter takes memory, and `Checked::try_clone`.
 #![tactic(auto)]

@@ -6,7 +6,7 @@ use super::address::{LineAddr, Local, Offset, SliceId, WordAddr};
 use super::config::Checked;
 use std::marker::Model;
 
-/// Where the lines of one slice stand among all lines. There are 1, 2 or 4 slices, so a shift and a mask find them.
+/// Where the lines of one slice are among all lines. There are 1, 2 or 4 slices, so a shift and a mask find them.
 #[derive(Clone, Copy, Debug)]
 pub struct Locator {
     lines: usize,

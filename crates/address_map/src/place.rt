@@ -8,7 +8,7 @@ use super::config::Checked;
 use std::alloc::{AllocError, Global};
 use std::boxed::BoxedSlice;
 
-/// Where a word stands: its slice, its line among that slice's lines, and its place in the line.
+/// Where a word is: its slice, its line among that slice's lines, and its place in the line.
 #[derive(Clone, Copy, Debug, PartialEq, Eq, Hash)]
 pub struct Place {
     pub local: Local,

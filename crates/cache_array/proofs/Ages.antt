@@ -116,7 +116,7 @@ oldest_first moves since ages allowed chosen e history slot line other at_chosen
         absurd cc
     by (inr past) none = omega arith
 
--- each policy prefers the line that it gives up
+-- each policy prefers the line that it evicts
 pub choice_is_preferred : (policy : PolicyKind) (allowed : List Bool) (word : ℕ) →
     IfSome (choice_of policy allowed word) (IsPreferred (moves_of policy) (prefers_of policy) allowed)
 choice_is_preferred Lru allowed word = by (first_allowed allowed) refl

@@ -34,7 +34,7 @@ nothing_to_pick allowed word none =
 
 pub ruleset none_to_pick = nothing_to_pick
 
--- each slot that may go stands in the list
+-- each slot that may go is in the list
 stands_in : (n : ℕ) (allowed : List Bool) (slot : ℕ) → slice_get allowed slot ≡ Some true →
     (k : ℕ) × (k < length (slots_from n allowed)) × (slice_get (slots_from n allowed) k ≡ Some (n + slot))
 stands_in n [] slot e = cc
@@ -121,7 +121,7 @@ choice_is_allowed Lru allowed word = first_is_allowed allowed
 choice_is_allowed Fifo allowed word = first_is_allowed allowed
 choice_is_allowed (Random seed) allowed word = pick_is_allowed allowed word
 
--- the policies that give up the first slot that may go
+-- the policies that evict the first slot that may go
 pub oldest_choice : (policy : PolicyKind) (allowed : List Bool) (word : ℕ) → (policy ≡ Lru) ⊎ (policy ≡ Fifo) →
     choice_of policy allowed word ≡ first_allowed allowed
 oldest_choice policy allowed word (inl e) = rw e refl

@@ -15,7 +15,7 @@ use Rattle.cache_array.proofs.Sets.{index_within, set-same, slots-same, slots-ot
 use Rattle.cache_array.proofs.Sets.{leaves-insert, leaves-write, leaves-use, leaves-remove}
 
 module _ {V P : Type 0} (array : ArrayView V P) (line : Local) (sound : IsArray array) where
-  -- the line's value is the one that was written, every other is as it was, and it stands where it stood
+  -- the line's value is the one that was written, every other is as it was, and it stays where it was
   pub written_held : (value : V) → IsSome (held_at array line) →
       held_at (with_slots array line (after_write (slots_at array line) line value)) line ≡ Some value
   written_held value held = (leaves-write array line value sound held).held.there

@@ -1,4 +1,4 @@
--- A line's slot by its place: its value is read there, lent there and changed there.
+-- A line's slot by its place: its value is read there, borrowed there and changed there.
 use Rattle.std.proofs.Common.{◌≡◌, ℕ, ◌↔◌, Bool, List, [], ◌∷◌, get_or, set, refl, ap, sym, ◌∙◌, subst, Option, Some}
 use Rattle.std.proofs.Common.{None, IsSome, is_some, option_map, find, position}
 use Rattle.address_map.specs.declared.address.Local.{Local}
@@ -55,7 +55,7 @@ left_there {V = V} inside now line way slot value e at is =
     ∙ ap (with now way) same
     ∙ ap (λ i. with now i line) (sym (first_at (holds line) now.slots way at))
 
--- what a search of the line's set tells of the array
+-- what a search of the line's set says of the array
 pub found_read : {V P : Type 0} (inside now : ArrayView V P) (line : Local) (index : ℕ) (found : SetView V)
     (way : Option ℕ) → inside ≡ now → IsArray inside → index ≡ set_index now line →
     found ≡ get_or inside.sets index found →
@@ -71,7 +71,7 @@ pub held_there : {V P : Type 0} (array : ArrayView V P) (line : Local) (way : �
     position (holds line) (slots_at array line) ≡ Some way → IsSome (held_at array line)
 held_there array line way at = sym (place_held (slots_at array line) line (Some way) (sym at))
 
--- whatever is left behind a loan, the array is in order
+-- whatever a borrow leaves, the array is in order
 pub left_sound : {V P : Type 0} (inside now : ArrayView V P) (line : Local) (way : ℕ) (value : V) (index : ℕ)
     (found : SetView V) → inside ≡ now → IsArray inside → index ≡ set_index inside line →
     found ≡ get_or inside.sets index found →

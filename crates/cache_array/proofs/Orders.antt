@@ -1,4 +1,4 @@
--- Lists of lines in which none stands twice.
+-- Lists of lines in which none occurs twice.
 use Rattle.std.proofs.Common.{◌≡◌, ◌≢◌, ℕ, Bool, true, false, cond, List, [], ◌∷◌, ◌++◌, get_or, suc, refl, ap, sym}
 use Rattle.std.proofs.Common.{◌∙◌, arith, Option, Some, None, option_to_list, find, All, AllPairs, eq-eqb, append-nil}
 use Rattle.std.specs.Set.{remove_key}
@@ -28,7 +28,7 @@ AllPairs-remove_key R p (x ∷ xs) pairs =
     by true all each rest = all
     by false all each rest = AllPairs-cons R x (remove_key p xs) each rest
 
--- a test of lines tells which they are
+-- a test of lines identifies them
 pub same_line : (line other : Local) → is_line line other ≡ true → other ≡ line
 same_line line other e = let named : ℕ → Local = λ n. record { 0 = n } in ap named (eqb-true other.0 line.0 e)
 

@@ -1,4 +1,4 @@
--- The first element of a list that passes a test: where it stands, and the list without it or with it at the end.
+-- The first element of a list that passes a test: where it is, and the list without it or with it at the end.
 use Rattle.std.proofs.Common.{◌≡◌, ℕ, ◌+◌, ◌<◌, ◌≤◌, Bool, true, false, cond, not, List, [], ◌∷◌, ◌++◌, length, map}
 use Rattle.std.proofs.Common.{get_or, set, zero, suc, refl, ap, sym, ◌∙◌, arith, Some, None, option_to_list, find}
 use Rattle.std.proofs.Common.{position, remove, drop, nat_lt, Option, subst}
@@ -34,7 +34,7 @@ remove_key-none p (x ∷ xs) past = by (p x) (position_or_len p xs) past (remove
     by true n le rest = absurd (omega arith)
     by false n le rest = ap (λ ys. x ∷ ys) (rest (omega arith))
 
--- the answer of `position`, told by its test
+-- the result of `position`, in terms of its test
 place_is : (b : Bool) (n i : ℕ) → cond b (Some n) None ≡ Some i → (b ≡ true) × (n ≡ i)
 place_is true n i e = (refl, cc)
 place_is false n i e = cc

@@ -262,7 +262,7 @@ changed {V = V} {P = P} inside now line index found new change e sound at is f =
     (ap (λ (a : ArrayView V P). set_index a line) e ∙ sym at)
     ∙ ap (with_set index) (ap (λ (s : SetView V). record s { slots = change s.slots }) (sym same) ∙ sym f)
 
--- what each call leaves, told of the array as its set was changed through a reference
+-- what each call leaves, in terms of the array as its set was changed through a reference
 pub insert_leaves : {V P : Type 0} (inside now : ArrayView V P) (line : Local) (value : V) (index : ℕ)
     (found new : SetView V) →
     inside ≡ now → IsArray inside → index ≡ set_index now line → found ≡ get_or inside.sets index found →

@@ -106,7 +106,7 @@ length-insert {V = V} slots line value =
     let new : List (Slot V) = record { line = line; value = value } ∷ [] in
     omega (arith, length-append slots new)
 
--- a line leaves
+-- a line is removed
 pub lines-remove : {V : Type 0} (slots : List (Slot V)) (line : Local) →
     lines_of (after_remove slots line) ≡ remove_key (is_line line) (lines_of slots)
 lines-remove {V = V} slots line = remove_key-map (λ (s : Slot V). s.line) (is_line line) slots
@@ -317,7 +317,7 @@ choice_within R slots flags chosen way asked allowed e =
     let there = slice_get_within flags way true (rw e at allowed) in
     omega (arith, there, length-asked R slots flags asked)
 
--- the answers of one closure, told in two ways
+-- the answers of one closure, expressed in two ways
 pub asked_as : {A B : Type 0} (R S : A → B → Type 0) → ((x : A) (y : B) → R x y → S x y) → (xs : List A) (ys : List B) →
     AllZip R xs ys → AllZip S xs ys
 asked_as R S same [] [] all = tt

@@ -245,7 +245,7 @@ victim_is {V = V} {P = P} array line test moves prefers (Some way) sound allowed
         two : (o : Option Local) {a b : Local} → o ≡ Some a → o ≡ Some b → a.0 ≡ b.0
         two o {a = a} {b = b} e f = let same : a ≡ b = cc in ap (λ (l : Local). l.0) same
 
--- whether some line of an array may go, told of the set that was read
+-- whether some line of an array may go, in terms of the set that was read
 pub some_read : {V P : Type 0} (inside now : ArrayView V P) (line : Local) (index : ℕ) (found : SetView V)
     (test : V → Bool) (some : Bool) → inside ≡ now → IsArray inside → index ≡ set_index now line →
     found ≡ get_or inside.sets index found →
@@ -253,7 +253,7 @@ pub some_read : {V P : Type 0} (inside now : ArrayView V P) (line : Local) (inde
 some_read {V = V} inside now line index found test some e sound at is f =
     f ∙ ap (λ (s : List (Slot V)). some_may_go test s) (slots_read inside now line index found e sound at is)
 
--- the victim of an array, told of the set that was read
+-- the victim of an array, in terms of the set that was read
 pub choice_read : {V P : Type 0} (inside now : ArrayView V P) (line : Local) (index : ℕ) (found : SetView V)
     (says : V → Bool → Type 0) (test : V → Bool) (choose : P → List Bool → Option ℕ) (flags : List Bool)
     (victim : Option Local) →

@@ -44,7 +44,7 @@ HasWay array line = length (slots_at array line) < (set_of array line).ways
 abbrev pub empty_array : {V P : Type 0} → ℕ → ℕ → P → ArrayView V P
 empty_array sets ways policy = record { sets = replicate sets (empty_set ways); policy = policy }
 
--- what holds of each set of so many: its lines are its own, none stands twice, and there are no more than its ways
+-- what holds of each of `sets` sets: its lines are its own, none occurs twice, and there are no more than its ways
 pub record IsSet {V : Type 0} (sets index : ℕ) (set : SetView V) : Type 0 where
   pub its_own : All (λ line. line.0 % sets ≡ index) (lines_of set.slots)
   pub distinct : AllPairs (λ line later. line.0 ≢ later.0) (lines_of set.slots)

@@ -25,7 +25,7 @@ after_event moves (Inserted line) order = remove_key (is_line line) order ++ lin
 after_event moves (Used line) order = if moves then moved_to_end (is_line line) order else order
 after_event moves (Removed line) order = remove_key (is_line line) order
 
--- the order of the lines after a whole history, whose latest event stands first, from an empty set on
+-- the order of the lines after a whole history, whose latest event comes first, from an empty set on
 abbrev pub order_after : Bool → List Event → List Local
 order_after moves [] = []
 order_after moves (event ∷ earlier) = after_event moves event (order_after moves earlier)

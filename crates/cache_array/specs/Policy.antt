@@ -1,4 +1,4 @@
--- Which slot of a set a policy gives up. The slots are named by their place in the set's list, and a list of the same
+-- Which slot of a set a policy evicts. The slots are named by their place in the set's list, and a list of the same
 -- length says which of them may go.
 use Rattle.std.specs.Prelude.{◌≡◌, ◌≢◌, ℕ, ◌%◌, ◌<◌, Bool, true, false, List, map, filter, length, position, slice_get}
 use Rattle.std.specs.Prelude.{Option, Some, All, MatchOption, ⊤}
@@ -26,7 +26,7 @@ moves_of Lru = true
 moves_of Fifo = false
 moves_of (Random seed) = false
 
--- the slot that a policy gives up: the oldest that may go, or the one that the word picks
+-- the slot that a policy evicts: the oldest that may go, or the one that the word picks
 abbrev pub choice_of : PolicyKind → List Bool → ℕ → Option ℕ
 choice_of Lru allowed word = first_allowed allowed
 choice_of Fifo allowed word = first_allowed allowed
@@ -37,7 +37,7 @@ abbrev pub IsAllowed : List Bool → Option ℕ → Type 0
 IsAllowed allowed chosen =
     MatchOption chosen (All (λ may_go. may_go ≡ false) allowed) (λ slot. slice_get allowed slot ≡ Some true)
 
--- what is known of the line that a policy gives up and another that it could have given up, after a history of their
+-- what is known of the line that a policy evicts and another that it could have evicted, after a history of their
 -- set: the one was used longer ago, or came in earlier
 abbrev pub prefers_of : PolicyKind → List Event → Local → Local → Type 0
 prefers_of Lru history line other = events_since_use history other < events_since_use history line

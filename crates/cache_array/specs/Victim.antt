@@ -1,4 +1,4 @@
--- The line that a set gives up, of those that the caller allows to go.
+-- The line that a set evicts, of those that the caller allows to go.
 use Rattle.std.specs.Prelude.{◌≡◌, ◌≢◌, ℕ, Bool, true, false, List, map, slice_get, Option, option_map, option_and_then}
 use Rattle.std.specs.Prelude.{IfSome, IsSomeAnd}
 use Rattle.std.specs.List.{list_any}
@@ -7,7 +7,7 @@ use Rattle.cache_array.specs.declared.set.Slot.{Slot}
 use Rattle.cache_array.specs.History.{Event, order_after}
 use Rattle.cache_array.specs.Array.{ArrayView, set_index, lines_at, held_at}
 
--- what a closure answers of a value is this test of it
+-- what a closure returns for a value is this test of it
 abbrev pub Answers : {V : Type 0} → (V → Bool → Type 0) → (V → Bool) → Type 0
 Answers {V} says test = (value : V) (answer : Bool) → says value answer → answer ≡ test value
 

@@ -55,7 +55,7 @@ impl<V: Copy, P: Policy + Drop> CacheArray<V, P> {
     ghost use Rattle.cache_array.specs.Lending.{LendsValue};
     ghost use Rattle.cache_array.specs.Victim.{Answers, flags_of, line_in, some_may_go, NoneMayGo, IsVictim};
 
-    /// Takes the memory for all sets. No other call takes any.
+    /// Allocates all sets.
     pub fn make(alloc: Global, config: &Checked, policy: P) -> Result<Self, AllocError>
         ensures { IfOk result (λ array. array ≡ empty_array config.now.sets config.now.ways policy) }
     {
@@ -207,7 +207,7 @@ impl<V: Copy, P: Policy + Drop> CacheArray<V, P> {
     }
 
     /// Takes a line out with its value. Nothing changes where the array doesn't hold it.
-    // Inlined, so that a value that nobody wants isn't copied.
+    // Inlined, so that a value that isn't used isn't copied.
     #[inline(always)]
     pub fn remove(&mut self, line: Local) -> Option<V>
         ensures value { result ≡ held_at self.old line }
@@ -234,8 +234,8 @@ impl<V: Copy, P: Policy + Drop> CacheArray<V, P> {
         self.sets[self.set_index(line)].has_victim(allowed)
     }
 
-    /// The line that the line's set gives up, of those whose value passes `allowed`; `None` where none does. A policy
-    /// that needs chance takes it from `word`.
+    /// Returns the line to evict from the line's set, of those whose value passes `allowed`; `None` where none does. A
+    /// policy that needs randomness takes it from `word`.
     pub fn victim<F: Fn(&V) -> bool>(&self, line: Local, allowed: F, word: u64) -> Option<Local>
         requires { F.IsAlwaysCallable allowed }
         ensures asked { (flags : List Bool)

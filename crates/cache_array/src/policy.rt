@@ -7,23 +7,23 @@ ghost use Rattle.cache_array.specs.Policy.{IsAllowed, IsPreferred, CanPickEach};
 
 use address_map::PolicyKind;
 
-/// Which slot of a set is given up. A set keeps its slots in a list, and a line comes in at its end.
+/// Which slot of a set is evicted. A set keeps its slots in a list, and a line comes in at its end.
 pub trait Policy {
     // whether a use moves the slot
     ghost moves: { Self → Bool };
 
-    // the slot that is given up
+    // the slot that is evicted
     ghost choice: { Self → List Bool → ℕ → Option ℕ };
 
-    // what is known of the line given up, after a history of its set, and another that might have been
+    // what is known of the line evicted, after a history of its set, and another that might have been
     ghost prefers: { Self → List Event → Local → Local → Type 0 };
 
     /// Whether a use takes a slot to the end of its set.
     fn moves_on_use(&self) -> bool
         ensures { result ≡ moves self.now };
 
-    /// The place in the set's list of the slot to give up, where `allowed` says for each slot whether it may go. A
-    /// policy that needs chance takes it from `word`.
+    /// The place in the set's list of the slot to evict, where `allowed` says for each slot whether it may go. A
+    /// policy that needs randomness takes it from `word`.
     fn choose(&self, allowed: &[bool], word: u64) -> Option<usize>
         ensures choice { result ≡ choice self.now allowed.now word }
         ensures allowed { IsAllowed allowed.now result }

@@ -24,7 +24,7 @@ pub struct Slot<V> {
     pub line: Local,
 }
 
-/// One set: an insertion goes last, a removal closes up. The memory for its ways is taken when it is made: by its
+/// One set: an insertion goes last, a removal closes up. Its ways are allocated when it is made: by its
 /// invariant its list never has more room, nor less.
 #[derive(Drop)]
 pub struct Set<V> {
@@ -48,7 +48,7 @@ impl<V: Copy> Set<V> {
     ghost use Rattle.cache_array.specs.Set.{empty_set, value_in, after_insert, after_write, after_use, after_remove};
     ghost use Rattle.cache_array.specs.Lending.{LendsIn};
 
-    /// Takes the memory for a set of so many ways. No other call takes any.
+    /// Allocates a set of `ways` ways.
     pub fn make(alloc: Global, ways: usize) -> Result<Self, AllocError>
         requires { ways ≤ MOST_WAYS }
         ensures { IfOk result (λ set. set ≡ empty_set ways) }
@@ -93,14 +93,14 @@ impl<V: Copy> Set<V> {
         &self.slots
     }
 
-    /// Where the line's slot stands.
+    /// Returns where the line's slot is.
     pub fn find(&self, line: Local) -> Option<usize>
         ensures { result ≡ position (holds line) self.now.slots }
     {
         self.slots.iter().position(|slot| slot.line == line)
     }
 
-    /// The value of the line, whose slot stands there.
+    /// Returns the value of the line, whose slot is at `way`.
     pub fn value(&self, line: Local, way: usize) -> &V
         requires { position (holds line) self.now.slots ≡ Some way }
         ensures { value_in self.now.slots line ≡ Some result.now }
@@ -171,7 +171,7 @@ impl<V: Copy> Set<V> {
         some_allowed(&self.slots, allowed)
     }
 
-    /// The line in the slot that the policy gives up, of those whose value passes `allowed`.
+    /// Returns the line in the slot that the policy evicts, of those whose value passes `allowed`.
     pub fn victim<P: Policy, F: Fn(&V) -> bool>(
         &self,
         policy: &P,

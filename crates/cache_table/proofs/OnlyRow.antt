@@ -11,7 +11,7 @@ use Rattle.cache_table.specs.declared.row.CacheSends.TheVariants as cache_sends
 use Rattle.cache_table.specs.declared.row.Row.{Row}
 use Rattle.cache_table.specs.declared.row.Row.TheVariants as rows
 
--- the state of which these facts are told
+-- the state that these facts describe
 abbrev state_from : (reads writes clean waits data_missing to_write leaves holds shares : Bool) → CopyState
 state_from reads writes clean waits data_missing to_write leaves holds shares =
     if clean then copy_states.E
@@ -35,7 +35,7 @@ state_from-told : (s : CopyState) → state_told s ≡ s
 state_from-told copy_states.I = refl
 state_from-told _ = refl
 
--- the message of which these facts are told
+-- the message that these facts describe
 abbrev sends_from : (to_requester home acknowledgement get get_m put put_m : Bool) → CacheSends
 sends_from to_requester home acknowledgement get get_m put put_m =
     if home then cache_sends.DataToRequesterAndHome

@@ -26,7 +26,7 @@ counted-lawful state event waits come n last others none =
           ]
     ]
 
--- The laws hold in each cell. The line of Load splits the cases of each state, and the last stands for each that is
+-- The laws hold in each cell. The line of Load splits the cases of each state, and the last covers each that is
 -- left.
 pub row_of-lawful : (state : CopyState) (event : CacheEvent) → IsLawful state event (row_of state event)
 row_of-lawful copy_states.IM_AD (cache_events.Data n k) =

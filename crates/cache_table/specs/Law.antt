@@ -128,7 +128,7 @@ abbrev pub ends_miss : CopyState → CacheEvent → Bool
 ends_miss state event = grants_writing state event || serves_read state event
 
 -- the protocol can bring the event to a copy: an access or an eviction while nothing is under way, a request of another
--- core to the holder or to who becomes one, an answer to who awaits it, with no more acknowledgements than there are
+-- core to the holder or the next one, an answer to a core that awaits it, with no more acknowledgements than there are
 abbrev pub can_come : CopyState → CacheEvent → Bool
 can_come state cache_events.Load = not (is_waiting state) && not (is_leaving state)
 can_come state cache_events.Write = not (is_waiting state) && not (is_leaving state)
@@ -230,7 +230,7 @@ pub record Answers (state : CopyState) (event : CacheEvent) (sent : CacheSends) 
   pub sharer : IsTrue (sends_inv_ack sent) → IsTrue (is_sharer state)
 
 -- A Get goes out exactly where a miss begins, to write if the access writes, and a Put exactly where an eviction
--- begins: with the block from the writer, and without it from a reader. So nobody has two requests under way.
+-- begins: with the block from the writer, and without it from a reader. So no core has two requests under way.
 pub record Asks (state : CopyState) (event : CacheEvent) (sent : CacheSends) : Type 0 where
   pub miss : sends_get sent ≡ misses state event
   pub to_write : sends_get_m sent ≡ (misses state event && is_write event)

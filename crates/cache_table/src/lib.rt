@@ -6,7 +6,7 @@
 //! so cell by cell, and above that gives the laws on which the coherence of a line rests (`specs/Law.antt`): when a
 //! core gains and loses the right to read or to write, and what it owes to others. Each row obeys them, and is the only
 //! one that does. `state` has the states, `row` the events, the sends and the table, and `docs/PROTOCOL.md` shows it. A
-//! call takes no memory.
+//! call allocates nothing.
 #![tactic(auto)]
 
 pub use row::{CacheEvent, CacheSends, Row, cache_row};

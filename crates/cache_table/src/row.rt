@@ -53,7 +53,7 @@ pub enum Row {
 /// The cell of the table at a state and an event.
 ///
 /// A hit stays where it is and sends nothing, but in E a write goes to M. Accesses to a line that has a miss register
-/// or stands in the write-back buffer never come to the table.
+/// or is in the write-back buffer never come to the table.
 #[inline(always)]
 pub const fn cache_row(state: CopyState, event: CacheEvent) -> Row
     ensures table { result ≡ row_of state event }

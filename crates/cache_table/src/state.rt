@@ -26,7 +26,7 @@ pub enum CopyState {
     MI_A,
     /// Evicted from S, or from M or E and then read by another core.
     SI_A,
-    /// Evicted, and then given up to another core.
+    /// Evicted, and then lost to another core.
     II_A,
     /// The only copy, not written yet.
     E,
@@ -49,7 +49,7 @@ impl CopyState {
         )
     }
 
-    /// Whether the copy was evicted and stands in the write-back buffer.
+    /// Whether the copy was evicted and is in the write-back buffer.
     pub const fn is_leaving(self) -> bool
         ensures { result ≡ is_leaving self }
     {

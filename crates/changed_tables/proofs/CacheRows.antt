@@ -12,7 +12,7 @@ use Rattle.protocol_tables.specs.declared.cache_rows.CacheCase.TheVariants as ca
 use Rattle.protocol_tables.specs.declared.cache_rows.Counted.TheVariants as counted
 use Rattle.changed_tables.specs.CacheText.{NoneSays, row_text, sends_at}
 
--- every state stands in the list
+-- every state is in the list
 pub each_state : (P : CopyState → Type 0) → All P (states_of true) → (state : CopyState) → P state
 each_state P all copy_states.I = all 0 copy_states.I (lit< tt)
 each_state P all copy_states.IS_D = all 1 copy_states.I (lit< tt)

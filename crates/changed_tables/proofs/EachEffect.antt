@@ -98,7 +98,7 @@ each_effect does =
           (rw (shares_digit a.place b.place c.place e.place f.place n refl a.below b.below c.below e.below f.below) f.is),
     )
 
--- who tried each effect, and beside them what takes nothing, tried each rule
+-- what holds of each effect, and of the rules without one, holds of each rule
 pub each_rule : (P : DirRule → Type 0) → P rules.Blocked → P rules.NoEntry
     → ((n : ℕ) → n < 1008 → P (rules.Go (effect_at n))) → (rule : DirRule) → P rule
 each_rule P blocked none goes rules.Blocked = blocked

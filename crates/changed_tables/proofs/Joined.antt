@@ -3,7 +3,7 @@ use Rattle.std.proofs.Common.{◌≡◌, ◌≢◌, ◌++◌, ◌∙◌, ℕ, Li
 use Rattle.std.proofs.lemmas.List.Prefix.{front_rest}
 use Rattle.std.specs.Bool.{Decides}
 
--- after the first text stands the second
+-- the second text comes after the first
 pub with_rest : (word first second rest : List ℕ) (same : Bool) → word ≡ first ++ rest → Decides same (rest ≡ second)
     → Decides same (word ≡ first ++ second)
 with_rest word first second rest same is decides = (

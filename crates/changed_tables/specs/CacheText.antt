@@ -78,7 +78,7 @@ abbrev pub IsReadAs : Bool → CopyState → CacheCase → List ℕ → Option R
 IsReadAs exclusive state case word None = word ≡ our_text exclusive state case
 IsReadAs exclusive state case word (Some row) = IsChanged exclusive state case word row
 
--- a word that can't stand at a cell
+-- a word that can't occur at a cell
 pub record IsRefused (exclusive : Bool) (state : CopyState) (case : CacheCase) (word : List ℕ) : Type 0 where
   pub not_ours : word ≢ our_text exclusive state case
   pub no_row : before_the_table state (sample_of case) ≡ None → NoneSays case word

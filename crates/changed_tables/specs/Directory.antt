@@ -75,7 +75,7 @@ does_at exclusive changes case owner sharers asker None = None
 does_at exclusive changes case owner sharers asker (Some entry) =
     Some (meaning_of (rule_in exclusive changes entry case) owner sharers asker)
 
--- nobody's name: no rule at data that come home names who asks
+-- no core's name: no rule at data that come home names a requester
 abbrev pub no_asker : CoreId
 no_asker = record { 0 = 0 }
 

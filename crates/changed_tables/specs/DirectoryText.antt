@@ -75,7 +75,7 @@ text_in exclusive [] entry case = our_text exclusive entry case
 text_in exclusive (change ∷ more) entry case =
     if is_at change entry case then rule_text entry change.rule else text_in exclusive more entry case
 
--- ---- rules that can stand at a cell
+-- ---- rules that can occur at a cell
 
 -- what is printed is the whole entry: with an owner there is no sharer
 abbrev pub is_whole_entry : Option CoreId → ℕ → Bool
@@ -86,7 +86,7 @@ abbrev pub is_whole : DirRow → Bool
 is_whole (dir_rows.Go step) = is_whole_entry step.owner step.sharers
 is_whole _ = true
 
--- who asks is sent something, owns or shares the line afterwards, or shares it no longer
+-- the requester is sent something, owns or shares the line afterwards, or shares it no longer
 abbrev pub sends_to_asker : DirMessage → Bool
 sends_to_asker messages.Nothing = false
 sends_to_asker _ = true
@@ -113,7 +113,7 @@ is_of_others (entries.S_D sharing.Nobody) = true
 is_of_others (entries.S_D sharing.Others) = true
 is_of_others _ = false
 
--- At data that come home nobody asks: a row is looked up as one sees it who has nothing to do with the line.
+-- At data that come home no core asks: a row is looked up as a core sees it that has nothing to do with the line.
 abbrev pub is_asked_at : Entry → DirCase → Bool
 is_asked_at entry cases.DataHome = is_of_others entry
 is_asked_at entry _ = true
@@ -141,7 +141,7 @@ abbrev pub IsReadAs : Bool → Entry → DirCase → List ℕ → Option DirRule
 IsReadAs exclusive entry case word None = word ≡ our_text exclusive entry case
 IsReadAs exclusive entry case word (Some rule) = IsChanged exclusive entry case word rule
 
--- a word that can't stand at a cell, unless memory was short
+-- a word that can't occur at a cell, unless an allocation failed
 pub record IsRefused (exclusive : Bool) (entry : Entry) (case : DirCase) (word : List ℕ) : Type 0 where
   pub not_ours : word ≢ our_text exclusive entry case
   pub no_rule : is_asked_at entry case ≡ true → NoneSays entry case word

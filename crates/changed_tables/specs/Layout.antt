@@ -32,7 +32,7 @@ words_of line = map trimmed (slice_split (λ byte. byte == 124) line)
 
 -- ---- lines
 
--- nothing stands before the first bar
+-- nothing comes before the first bar
 abbrev pub has_bar : Words → Bool
 has_bar words = nat_lt 1 (length words) && is_empty (word_at words 0)
 
@@ -87,7 +87,7 @@ cell_of line titles words i =
 abbrev pub cells_along : ℕ → Words → Words → List Cell
 cells_along line titles words = flat_map (cell_of line titles words) (range_with_len 2 (length words - 2))
 
--- what a line adds: nothing where no heading of the table stands above it
+-- what a line adds: nothing where no heading of the table is above it
 abbrev pub cells_of_line : ℕ → Words → Words → List Cell
 cells_of_line line [] words = []
 cells_of_line line titles words = cells_along line titles words
@@ -106,7 +106,7 @@ titles_after table _ titles words = titles
 
 -- ---- texts
 
--- the cells of these lines, of which the first has this number and stands below these titles
+-- the cells of these lines, the first of which has this number and is below these titles
 abbrev pub cells_of_lines : List ℕ → ℕ → Words → List (List ℕ) → List Cell
 cells_of_lines table line titles [] = []
 cells_of_lines table line titles (text ∷ more) =

@@ -16,7 +16,7 @@ use protocol_tables::{CacheCase, accesses, messages, states};
 use std::alloc::Global;
 
 /// Reads what `lockup table cache` prints, with any change of its cells, and returns the changes. Lines and columns may
-/// be left out or stand in another order.
+/// be left out or come in another order.
 pub fn read_cache_table(
     alloc: Global,
     exclusive: bool,
@@ -66,7 +66,7 @@ fn change_of(exclusive: bool, cell: &Written) -> Result<Option<CacheChange>, Tab
     }
 }
 
-/// Checks that each cell says what the changed table says there: no cell stands twice with different texts.
+/// Checks that each cell says what the changed table says there: no cell occurs twice with different texts.
 fn check_cells(
     exclusive: bool,
     changes: &[CacheChange],

@@ -101,7 +101,7 @@ fn effect_at(number: usize) -> DirEffect
     }
 }
 
-/// Whether a rule can stand in the column, and says the word.
+/// Whether a rule can occur in the column, and says the word.
 fn is_said(
     alloc: Global,
     entry: Entry,

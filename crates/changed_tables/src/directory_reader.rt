@@ -15,7 +15,7 @@ use protocol_tables::{DirCase, Entry, dir_cases, directory_rule, entries};
 use std::alloc::{AllocError, Global};
 
 /// Reads what `lockup table directory` prints, with any change of its cells, and returns the changes. Lines and columns
-/// may be left out or stand in another order.
+/// may be left out or come in another order.
 pub fn read_directory_table(
     alloc: Global,
     exclusive: bool,
@@ -71,7 +71,7 @@ fn change_of(
     }
 }
 
-/// Checks that each cell says what the changed table says there: no cell stands twice with different texts.
+/// Checks that each cell says what the changed table says there: no cell occurs twice with different texts.
 fn check_cells(
     alloc: Global,
     exclusive: bool,

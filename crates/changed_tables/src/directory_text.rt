@@ -118,7 +118,7 @@ pub(crate) const fn is_whole(row: DirRow) -> bool
     }
 }
 
-/// Whether a rule can stand in the column: at data that come home nobody asks.
+/// Whether a rule can occur in the column: at data that come home no core asks.
 pub(crate) const fn is_rule_for(case: DirCase, rule: DirRule) -> bool
     ensures { result ≡ is_rule_for case rule }
 {
@@ -141,7 +141,7 @@ const fn names_asker(rule: DirRule) -> bool
     }
 }
 
-/// Whether the cell is looked up: at data that come home as one sees the entry who has nothing to do with the line.
+/// Whether the cell is looked up: at data that come home as a core sees the entry that has nothing to do with the line.
 pub(crate) const fn is_asked_at(entry: Entry, case: DirCase) -> bool
     ensures { result ≡ is_asked_at entry case }
 {

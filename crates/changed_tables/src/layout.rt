@@ -91,7 +91,7 @@ pub(crate) fn add<T: Drop>(found: Option<T>, all: &mut Vec<T>) -> Result<(), All
     Ok(())
 }
 
-/// What stands before the first bar, between bars, and after the last.
+/// Returns what comes before the first bar, between bars, and after the last.
 fn words_of(alloc: Global, line: &[u8]) -> Result<Vec<&[u8]>, AllocError>
     ensures { IfOk result (λ words. words_at words.items ≡ words_of line.now) }
 {
@@ -126,7 +126,7 @@ fn kind_of(words: &[&[u8]]) -> Kind
     }
 }
 
-/// Whether nothing stands before the first bar.
+/// Whether nothing comes before the first bar.
 fn has_bar(words: &[&[u8]]) -> bool
     ensures { result ≡ has_bar (words_at words.now) }
 {

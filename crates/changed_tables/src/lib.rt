@@ -9,9 +9,9 @@
 //! changed table says at each cell of the text what the text says there, and each change is of a cell that says
 //! something else than ours (`IsRead` and `IsOfSome` of specs/CacheText.antt and specs/DirectoryText.antt). Which cells a
 //! text has is `cells_in` of specs/Layout.antt. A cell's word is refused only where no row says it (`IsRefused`); which
-//! cell at fault is named, and how the fault is worded, isn't proved. `layout` finds the cells, `cache_text` and
+//! invalid cell is named, and how the fault is worded, isn't proved. `layout` finds the cells, `cache_text` and
 //! `directory_text` say what a row prints as, `cache_cell` and `directory_cell` find the row, and `cache_reader` and
-//! `directory_reader` go over the cells. Reading takes memory for the cells, and tries each effect of a rule for each
+//! `directory_reader` go over the cells. Reading allocates the cells, and tries each effect of a rule for each
 //! changed cell of a directory's table.
 #![tactic(auto)]
 

@@ -57,7 +57,7 @@ const fn sharers_after(
     }
 }
 
-/// The owner and who asks.
+/// The owner and the requester.
 const fn pair_of(owner: Option<CoreId>, asker: CoreId) -> CoreSet
     ensures { result ≡ pair_of owner asker }
 {

@@ -1,4 +1,4 @@
-//! Numbers of a table's lines and columns, by which cells are compared.
+//! Numbers of a table's lines and columns, used to compare cells.
 
 ghost use Rattle.std.specs.Prelude.{◌≡◌};
 ghost use Rattle.changed_tables.specs.Numbers.{case_number, dir_case_number, entry_number, sharing_number, state_number};

@@ -14,7 +14,7 @@ use directory_table::{DirEvent, DirRow, DirState};
 use protocol_tables::{CacheCase, DirCase, DirRule, Entry, cache_rule, directory_rule};
 use std::alloc::Global;
 
-/// A cell of the cache's table, with the row that is there in place of ours.
+/// A cell of the cache's table, with the row that is there instead of ours.
 #[derive(Clone, Copy, Debug, PartialEq, Eq)]
 pub struct CacheChange {
     pub state: CopyState,
@@ -22,7 +22,7 @@ pub struct CacheChange {
     pub row: Row,
 }
 
-/// A cell of the directory's table, with the rule that is there in place of ours.
+/// A cell of the directory's table, with the rule that is there instead of ours.
 #[derive(Clone, Copy, Debug, PartialEq, Eq)]
 pub struct DirectoryChange {
     pub entry: Entry,

@@ -10,7 +10,7 @@ use std::sync::atomic::AtomicUsize;
 use std::sync::atomic::Ordering::SeqCst;
 use std::thread;
 
-/// How many threads move messages on beside those of the cores: 0 to 4.
+/// How many threads move messages on in addition to those of the cores: 0 to 4.
 #[derive(Clone, Copy, Debug, PartialEq, Eq)]
 pub struct Movers {
     count: u8,
@@ -21,7 +21,7 @@ impl Movers {
     /// The most that there are.
     pub const MOST: u8 = 4;
 
-    /// So many, where they are 4 at most.
+    /// Returns `count` movers, if that is at most 4.
     pub const fn new(count: u8) -> Option<Movers>
         ensures few { IsSome result ↔ (count ≤ 4) }
         ensures count { IfSome result (λ movers. movers.count ≡ count) }
@@ -33,7 +33,7 @@ impl Movers {
         }
     }
 
-    /// How many they are.
+    /// Returns their number.
     pub const fn count(self) -> u8
         ensures count { result ≡ self.count }
         ensures few { result ≤ 4 }
@@ -42,7 +42,7 @@ impl Movers {
     }
 }
 
-/// Makes one delivery after another, in each slice in turn, until so many jobs have ended or so many calls were made.
+/// Makes one delivery after another, in each slice in turn, until `jobs` jobs have ended or `limit` calls were made.
 /// Where nothing can be moved, other threads go first.
 pub(crate) fn move_on<R: Wait, F: MissFile, M: SystemNames>(
     rt: &R,

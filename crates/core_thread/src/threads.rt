@@ -12,12 +12,12 @@ use std::thread;
 use std::thread::{Scope, Threads};
 
 /// Runs each job's program in a thread of its own, in no more than `limit` turns, and returns once all threads have
-/// ended. Beside them each of the movers makes one delivery after another, until all jobs have ended or it has made
+/// ended. Meanwhile each of the movers makes one delivery after another, until all jobs have ended or it has made
 /// `limit` calls.
 ///
-/// Where a thread can't be started the answer is `Start`. The others run all the same, and a job without a thread is
-/// left `NotRun`. The jobs, and so the cores, are the caller's in any case. No memory is asked for but what the cores'
-/// requests take, and no lock is held while a gate is told of a request.
+/// If a thread can't be started the result is `Start`. The others run all the same, and a job without a thread is
+/// left `NotRun`. The jobs, and so the cores, are the caller's in any case. No memory is allocated but what the cores'
+/// requests take, and no lock is held while a gate is notified of a request.
 pub fn run_all<R, F, M, G>(
     rt: &R,
     system: &System<F, All<M>>,
@@ -46,7 +46,7 @@ where
     }
 }
 
-// Starts all threads, waits until each has ended, and answers whether all could be started.
+// Starts all threads, waits until each has ended, and returns whether all could be started.
 fn start<'k, R, F, M, T, G>(
     rt: &R,
     system: &System<F, All<M>>,

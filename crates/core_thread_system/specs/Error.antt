@@ -6,7 +6,7 @@ use Rattle.address_map.specs.declared.config.ConfigError.{ConfigError}
 use Rattle.core_thread_system.specs.declared.error.BuildError.{BuildError}
 use Rattle.core_thread_system.specs.declared.error.BuildError.TheVariants as build_errors
 
--- this is the first field at fault
+-- this is the first invalid field
 unfoldable pub IsRefusedFor : Config → ConfigError → Type 0
 IsRefusedFor c fault = first_fault c ≡ Some fault
 

@@ -87,7 +87,7 @@ macro_rules! at_slice {
 }
 
 impl<'a, F: MissFile, M: SystemNames> Core<'a, F, M> {
-    /// A core with these ports, and no tag in flight.
+    /// Returns a core with these ports, and no tag in flight.
     pub fn new(system: &'a System<F, M>, ports: PortSet<M>) -> Core<'a, F, M>
         ensures { result ≡ core_of ports }
     {
@@ -110,7 +110,7 @@ impl<'a, F: MissFile, M: SystemNames> Core<'a, F, M> {
         }
     }
 
-    /// Its number.
+    /// Returns its number.
     pub fn core(&self) -> CoreId
         ensures core { result ≡ self.now.core }
         ensures known { result.0 < M.setup.cores }
@@ -118,14 +118,14 @@ impl<'a, F: MissFile, M: SystemNames> Core<'a, F, M> {
         self.core
     }
 
-    /// The tags of its requests that wait or aren't handed out: bit t for tag t.
+    /// Returns the tags of its requests that wait or aren't handed out: bit t for tag t.
     pub fn tags_in_flight(&self) -> u64
         ensures { result ≡ self.now.tags }
     {
         self.tags
     }
 
-    /// Its receipts of a slice, in the order in which they were handed out.
+    /// Returns its receipts of a slice, in the order in which they were handed out.
     pub fn receipts(&self, slice: SliceId) -> &[Receipt]
         ensures receipts { result.now ≡ receipts_of self.now slice.0 }
         ensures own { AreOwn M.setup slice.0 (port_at self.now slice.0).core result.now }
@@ -153,7 +153,7 @@ impl<'a, F: MissFile, M: SystemNames> Core<'a, F, M> {
         }
     }
 
-    /// How many requests a slice accepted.
+    /// Returns how many requests a slice accepted.
     pub fn accepted(&self, slice: SliceId) -> u64
         ensures { result ≡ accepted_of self.now slice.0 }
     {
@@ -212,7 +212,7 @@ impl<'a, F: MissFile, M: SystemNames> Core<'a, F, M> {
         at_slice!(self, slice, |at, port| at.issue(rt, port, request))
     }
 
-    /// How many slices the system has.
+    /// Returns how many slices the system has.
     pub(crate) fn slices(&self) -> usize
         ensures slices { result ≡ M.setup.slices }
         ensures some { 1 ≤ result }

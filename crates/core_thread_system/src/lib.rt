@@ -7,7 +7,7 @@
 //!
 //! - [`Core::issue`] asks the word's slice. A word past the memory, a tag above 63 and a tag in flight are refused by
 //!   the core itself.
-//! - [`Core::collect`] takes the next reply, from whichever slice has one; [`Core::turn`] moves messages on besides.
+//! - [`Core::collect`] takes the next reply, from whichever slice has one; [`Core::turn`] also moves messages on.
 //! - [`Core::run`] runs a program of such calls, and notifies a [`Gate`] of each request.
 //! - [`Core::settle`] settles a slice with the ports borrowed from all cores.
 //! - [`System::look`] keeps a slice's lock for a look at its state.

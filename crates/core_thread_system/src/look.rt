@@ -35,7 +35,7 @@ impl<'a, F: MissFile, M: SystemNames> Model for SystemLook<'a, F, M> {
 
 impl<F: MissFile, M: SystemNames> System<F, M> {
     /// Takes a slice's lock for a look at its state, and keeps it until the look is dropped. No other call on this
-    /// slice gets on meanwhile.
+    /// slice can continue meanwhile.
     pub fn look<'a, R: Wait>(&'a self, rt: &R, slice: SliceId) -> SystemLook<'a, F, M>
         requires { slice.0 < M.setup.slices }
         ensures { result ≡ slice }

@@ -31,7 +31,7 @@ impl<M: SystemNames> Model for PortSet<M> {
 }
 
 impl<M: SystemNames> PortSet<M> {
-    /// Whose ports they are.
+    /// Returns the core whose ports they are.
     pub fn core(&self) -> CoreId
         ensures core { result ≡ self.now.core }
         ensures known { result.0 < M.setup.cores }

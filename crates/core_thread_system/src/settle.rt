@@ -12,8 +12,8 @@ use slice_lock::Unsettled;
 use std::sync::Wait;
 
 impl<'a, F: MissFile, M: SystemNames> Core<'a, F, M> {
-    /// Settles a slice with the ports of all cores: the value of each counter of the slice, ascending by word. It takes
-    /// no memory, and leaves the cores as they were.
+    /// Settles a slice with the ports of all cores: returns the value of each counter of the slice, ascending by word.
+    /// It allocates nothing, and leaves the cores as they were.
     pub fn settle<R: Wait>(
         rt: &R,
         system: &System<F, M>,

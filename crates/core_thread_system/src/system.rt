@@ -139,7 +139,7 @@ impl<F: MissFile, M: SystemNames> System<F, M> {
         Ok((system, sets))
     }
 
-    /// The configuration that it was built from.
+    /// Returns the configuration that it was built from.
     pub fn config(&self) -> &Checked
         ensures config { result.now ≡ self.now }
         ensures named { result.now ≡ M.setup }
@@ -149,7 +149,7 @@ impl<F: MissFile, M: SystemNames> System<F, M> {
         &self.config
     }
 
-    /// How many slices there are.
+    /// Returns how many slices there are.
     pub(crate) fn slices(&self) -> usize
         ensures slices { result ≡ M.setup.slices }
         ensures some { 1 ≤ result }
@@ -158,14 +158,14 @@ impl<F: MissFile, M: SystemNames> System<F, M> {
         self.config.slices()
     }
 
-    /// How many words the memory has.
+    /// Returns how many words the memory has.
     pub(crate) fn words(&self) -> u64
         ensures { result ≡ word_count M.setup }
     {
         8 * self.config.lines() as u64
     }
 
-    /// The slice that has a line.
+    /// Returns the slice that has a line.
     pub(crate) fn slice_of(&self, line: LineAddr) -> SliceId
         ensures slice { result ≡ slice_of M.setup line }
         ensures configured { result.0 < M.setup.slices }
@@ -173,7 +173,7 @@ impl<F: MissFile, M: SystemNames> System<F, M> {
         slice_of(&self.config, line)
     }
 
-    /// The number of the slice after this one; after the last comes slice 0.
+    /// Returns the number of the slice after this one; after the last comes slice 0.
     pub(crate) fn after(&self, slice: SliceId) -> u8
         requires { slice.0 < M.setup.slices }
         ensures { result ≡ (slice.0 + 1) % M.setup.slices }

@@ -13,21 +13,21 @@ pub(crate) const fn has_tag(tags: u64, tag: u8) -> bool
     CoreSet::from_bits(tags).has(CoreId(tag))
 }
 
-/// These tags and one more.
+/// Returns these tags and one more.
 pub(crate) const fn with_tag(tags: u64, tag: u8) -> u64
     ensures { result ≡ with tags tag }
 {
     CoreSet::from_bits(tags).with(CoreId(tag)).bits()
 }
 
-/// These tags but one.
+/// Returns these tags but one.
 pub(crate) const fn without_tag(tags: u64, tag: u8) -> u64
     ensures { result ≡ without tags tag }
 {
     CoreSet::from_bits(tags).without(CoreId(tag)).bits()
 }
 
-/// The lowest tag that isn't among these.
+/// Returns the lowest tag that isn't among these.
 pub(crate) fn free_tag(tags: u64) -> Option<u8>
     ensures { IsLowestFree tags result }
 {

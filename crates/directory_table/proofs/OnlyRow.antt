@@ -71,7 +71,7 @@ same_told x y put_ack inv only block to_write cores to = cc
 
 -- ---- these facts are known from the entry and the event
 
--- data go out where a Get comes to a line that nobody may write, and else it is forwarded
+-- data go out where a Get comes to a line that no core may write, and else it is forwarded
 data_by : (d f g m : Bool) → (d || f) ≡ g → (d ≡ true → m ≡ false) → (f ≡ true → m ≡ true) → d ≡ (g && not m)
 data_by true f g true get current owned = apart (sym (current refl))
 data_by true f g false get current owned = rw (sym get) refl
@@ -213,7 +213,7 @@ abbrev Goes : Bool → DirState → Option CoreId → ℕ → DirEvent → DirSt
 Goes exclusive state owner sharers event next owns shares sent writes =
     IsLawful exclusive state owner sharers event (row_to next owns shares sent writes)
 
--- Who reads a line that nobody has becomes its owner under the setting, and is named as one.
+-- A core that reads a line that no core has becomes its owner under the setting, and is named as one.
 read-granted : (state : DirState) (exclusive : Bool) (owner : Option CoreId) (sharers : ℕ) (core : CoreId)
     (next : DirState) (shares : ℕ) (sent : DirSends) (writes : Bool) → IsKept state owner sharers (dir_events.GetS core)
     → Goes exclusive state owner sharers (dir_events.GetS core) next None shares sent writes

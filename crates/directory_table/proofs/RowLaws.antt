@@ -116,7 +116,7 @@ set-without set core small other past =
 set-none : IsSet 0
 set-none other past = has-zero other
 
--- The sets of each cell have only cores that there can be. The last line stands for each cell that is left.
+-- The sets of each cell have only cores that there can be. The last line covers each cell that is left.
 pub cell-sets : (exclusive : Bool) (state : DirState) (owner : Option CoreId) (sharers : ℕ) (event : DirEvent)
     → IsSet sharers → HasSets (cell exclusive state owner sharers event)
 cell-sets true dir_states.I owner sharers (dir_events.GetS core) small = (small, set-none)

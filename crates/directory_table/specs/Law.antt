@@ -30,7 +30,7 @@ is_blocked _ = false
 
 -- ---- states, owners and sharers
 
--- nobody has the line
+-- no core has the line
 abbrev pub is_idle : DirState → Bool
 is_idle dir_states.I = true
 is_idle _ = false
@@ -154,7 +154,7 @@ messages_to event sent core =
 
 -- ---- laws
 
--- An owner stands in the entry exactly in M.
+-- An owner is in the entry exactly in M.
 abbrev pub HasOwnerInM : DirState → Option CoreId → Type 0
 HasOwnerInM state owner = is_some owner ≡ is_modified state
 
@@ -176,13 +176,13 @@ pub record Replies (event : DirEvent) (sent : DirSends) : Type 0 where
   pub get_m : IsTrue (is_some (forwarded_get_m sent)) → IsTrue (is_some (writer event))
   pub put : acknowledges_put sent ≡ is_put event
 
--- Who is given the line then stands in the entry, if a set can have it.
+-- The core that is given the line is in the entry then, if a set can have it.
 abbrev pub KnowsRequester : DirEvent → Option CoreId → ℕ → Type 0
 KnowsRequester event owner sharers =
     IfSome (getter event) (λ core. core.0 < 64 → IsTrue (has sharers core.0 || is_named owner core.0))
 
 -- A GetM makes its requester the owner. Nothing else makes a new owner but, under the setting, a GetS of a line that
--- nobody has. An owner stays until another Get, or until it writes the line back.
+-- no core has. An owner stays until another Get, or until it writes the line back.
 pub record GrantsWriting (exclusive : Bool) (state : DirState) (owner : Option CoreId) (event : DirEvent)
     (next : Option CoreId) : Type 0 where
   pub granted : IfSome (writer event) (λ core. next ≡ Some core)
@@ -198,7 +198,7 @@ pub record Invalidates (state : DirState) (sharers : ℕ) (event : DirEvent) (se
       → is_sent_inv sent core
       ≡ (is_shared state && is_some (writer event) && has sharers core && not (is_named (writer event) core))
 
--- The requester is told to await as many acknowledgements as cores are sent an invalidation.
+-- The number of acknowledgements that the requester has to await is that of the cores that are sent an invalidation.
 abbrev pub AwaitsInvalidated : DirSends → Type 0
 AwaitsInvalidated (dir_sends.Data acks) = acks ≡ 0
 AwaitsInvalidated (dir_sends.DataAndInv acks invalidated) = acks ≡ count_of invalidated
@@ -242,11 +242,11 @@ pub record AwaitsHome (state : DirState) (event : DirEvent) (sent : DirSends) (n
   pub lasts : is_awaited next ≡ (is_some (forwarded_get_s sent) || is_awaited state && not (is_data_home event))
   pub comes : IsTrue (is_data_home event) → IsTrue (is_awaited state)
 
--- Who asks for a line whose block is on its way home has to wait, and nobody else.
+-- A core that asks for a line whose block is on its way home has to wait, and no other core.
 abbrev pub has_to_wait : DirState → DirEvent → Bool
 has_to_wait state event = is_awaited state && is_some (getter event)
 
--- The only copy is given exactly where the setting is on and a core asks to read a line that nobody has.
+-- The only copy is given exactly where the setting is on and a core asks to read a line that no core has.
 abbrev pub GivesOnlyCopy : Bool → DirState → DirEvent → DirSends → Type 0
 GivesOnlyCopy exclusive state event sent = sends_only_copy sent ≡ (exclusive && is_idle state && is_some (reader event))
 

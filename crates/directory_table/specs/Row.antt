@@ -28,7 +28,7 @@ shared_by sharers = if sharers == 0 then dir_states.I else dir_states.S
 
 -- the cell at a setting of the exclusive state, a state, an owner, the sharers and an event
 abbrev pub cell : Bool → DirState → Option CoreId → ℕ → DirEvent → DirRow
--- I: nobody has the line. A Put that comes late is only acknowledged.
+-- I: no core has the line. A Put that comes late is only acknowledged.
 cell true dir_states.I owner sharers (dir_events.GetS core) = goes dir_states.M (Some core) sharers dir_sends.DataE
 cell false dir_states.I owner sharers (dir_events.GetS core) = goes dir_states.S owner (only core.0) (dir_sends.Data 0)
 cell exclusive dir_states.I owner sharers (dir_events.GetM core) =

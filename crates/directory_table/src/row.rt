@@ -39,7 +39,7 @@ pub enum DirSends {
 /// What the directory does by a row of the table.
 #[derive(Clone, Copy, Debug, PartialEq, Eq)]
 pub struct DirStep {
-    // Small fields stand together: each alone would bring seven bytes of padding that are copied with it.
+    // Small fields are together: each alone would bring seven bytes of padding that are copied with it.
     /// The entry's next state, and its next owner.
     pub state: DirState,
     pub owner: Option<CoreId>,
@@ -63,7 +63,7 @@ pub enum DirRow {
 }
 
 /// The cell of the table at an entry and an event. `exclusive` is the setting by which a request to read a line that
-/// nobody has is given the only copy.
+/// no core has is given the only copy.
 #[inline(always)]
 pub fn dir_row(exclusive: bool, entry: &DirEntry, event: DirEvent) -> DirRow
     ensures table { result ≡ row_of exclusive entry.now event }

@@ -1,4 +1,4 @@
--- As many receipts are gathered as requests were accepted.
+-- The receipts gathered are as many as the requests accepted.
 use Rattle.std.proofs.Common.{◌≡◌, ℕ, ◌<◌, ◌≤◌, ◌∙◌, List, [], ◌∷◌, length, true, if◌then◌else◌, refl, sym, ap, arith}
 use Rattle.std.proofs.Common.{sum_by, filter, length-append, lt-ltb}
 use Rattle.std.specs.Prelude.{◌==◌, nat_lt}

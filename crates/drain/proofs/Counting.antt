@@ -12,7 +12,7 @@ use Rattle.std.proofs.lemmas.List.Sums.{sum_by-cons, sum_by-append}
 use Rattle.receipt_ledger.specs.History.{times}
 use Rattle.drain.proofs.Sums.{by-number, below-more}
 
--- how often a number stands, as a sum
+-- how often a number occurs, as a sum
 times-sum : (n : ℕ) (xs : List ℕ) → times n xs ≡ sum_by (λ x. 1) (filter (λ x. x == n) xs)
 times-sum n [] = refl
 times-sum n (x ∷ xs) =
@@ -29,7 +29,7 @@ sum-ones (x ∷ xs) =
     let whole = sum_by-cons (λ (y : ℕ). 1) x xs in
     omega (arith, rest, whole)
 
--- Where each number below the limit stands once, there are as many such numbers as the limit.
+-- Where each number below the limit occurs once, there are as many such numbers as the limit.
 ones-below : (limit : ℕ) (xs : List ℕ) → ((n : ℕ) → n < limit → times n xs ≡ 1)
     → sum_by (λ n. sum_by (λ x. 1) (filter (λ x. x == n) xs)) (range_with_len 0 limit) ≡ limit
 ones-below zero xs once = refl
@@ -43,7 +43,7 @@ ones-below (suc limit) xs once =
     let one = sum_by-cons g limit [] in
     omega (arith, rest, last, whole, one)
 
--- Where all numbers are below the limit, and each below it stands once, they are as many as the limit.
+-- Where all numbers are below the limit, and each below it occurs once, they are as many as the limit.
 pub as-many : (limit : ℕ) (xs : List ℕ) → AllByRecursion (λ x. x < limit) xs → ((n : ℕ) → n < limit → times n xs ≡ 1)
     → length xs ≡ limit
 as-many limit xs all once =
@@ -98,7 +98,7 @@ one-most : (n x : ℕ) → one_at n x ≤ 1
 unfolding one_at
 one-most n x = elim (x == n) as (λ b. cond b 1 0 ≤ 1) [ true ↦ omega arith | false ↦ omega arith ]
 
--- No number stands more often than there are cores.
+-- No number occurs more often than there are cores.
 pub times-most : (n : ℕ) (cores : List CoreView) → times n (numbers_of cores) ≤ length cores
 unfolding one_at
 times-most n [] = omega arith

@@ -1,4 +1,4 @@
--- A list of which one element after the other is changed in its place, and what is at an element's rank among those
+-- A list in which one element after the other is changed in its place, and what is at an element's rank among those
 -- that pass a test.
 use Rattle.std.proofs.Common.{◌≡◌, ℕ, zero, suc, ◌+◌, ◌<◌, ◌≤◌, ◌∙◌, Bool, true, false, List, [], ◌∷◌, length, refl}
 use Rattle.std.proofs.Common.{sym, ap, cond, arith, filter, get_or, set, map}

@@ -41,7 +41,7 @@ next-is c cores left slice old values shown i same words settled read within = r
   within = within;
 }
 
--- Whether the slice has a word, as it was told by the same configuration.
+-- Whether the slice has a word, in terms of the same configuration.
 pub home-is : (c told : Config) (word : WordAddr) (slice : ℕ) (answer : Bool) → told ≡ c
     → answer ≡ is_of_slice told slice word → answer ≡ true → home_of c word ≡ slice
 home-is c told word slice answer same is there =

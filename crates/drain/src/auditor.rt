@@ -33,7 +33,7 @@ pub fn audit<'a, F: MissFile, M: SystemNames, R: Wait>(
     }
 }
 
-// The same of cores that are lent, which stay as they were.
+// The same with borrowed cores, which stay as they were.
 fn audit_cores<'a, F: MissFile, M: SystemNames, R: Wait>(
     rt: &R,
     alloc: Global,

@@ -6,7 +6,7 @@ use address_map::Checked;
 use arrayvec::ArrayVec;
 use std::alloc::{AllocError, Global};
 
-/// The counters, in the configured order, before any slice is settled.
+/// Returns the counters, in the configured order, before any slice is settled.
 pub(crate) fn unsettled(config: &Checked) -> ArrayVec<CounterValue, 8>
     ensures { result.items ≡ map unset_counter config.now.counters }
 {

@@ -10,11 +10,12 @@ pub enum AuditError {
     Missing(CoreId),
     /// Two or more cores of this number were given.
     Repeated(CoreId),
-    /// A message is in flight in the slice, a miss register is held, a line leaves, or a reply isn't handed out.
+    /// A message is in flight in the slice, a miss register is held, a write-back is pending, or a reply isn't handed
+    /// out.
     NotQuiet(SliceId),
     /// The slice is quiet, and the cores' requests and receipts aren't its log.
     Differs(SliceId),
-    /// Memory was wanting.
+    /// An allocation failed.
     Memory,
 }
 

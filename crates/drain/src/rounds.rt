@@ -7,7 +7,7 @@ use core_thread_system::{Core, System, SystemNames};
 use mshr_file::MissFile;
 use std::sync::Wait;
 
-/// Makes rounds, at most so many, until each slice is quiet: in a round each core takes a turn. It looks before the
+/// Makes rounds, at most `limit`, until each slice is quiet: in a round each core takes a turn. It looks before the
 /// first round too. The cores ask for nothing meanwhile.
 pub fn drain<F: MissFile, M: SystemNames, R: Wait>(
     rt: &R,

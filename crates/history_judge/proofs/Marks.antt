@@ -1,4 +1,4 @@
--- The places that were noted of an order's accesses, as it is read.
+-- The places that were noted for an order's accesses, as it is read.
 use Rattle.std.proofs.Common.{◌≡◌, ◌≢◌, ℕ, ◌+◌, ◌<◌, ◌≤◌, ◌⊎◌, List, length, get_or, Option, Some, None, refl, sym, ◌∙◌}
 use Rattle.std.proofs.Common.{inl, inr, arith, subst}
 use Rattle.std.proofs.Math.ListN.{set}
@@ -104,7 +104,7 @@ each_once count order places read marks all there =
           (marks.noted k i (omega arith) here).1);
     }
 
--- ---- an order that has each access once is refused nowhere
+-- ---- an order that has each access once is never refused
 
 pub each_marked : (count : ℕ) (order : List ℕ) (places : List (Option ℕ)) (read : ℕ)
     → AreMarks count order places read → length order ≤ read → HasEachOnce count order

@@ -12,7 +12,7 @@ use Rattle.history_judge.proofs.LastChange.{HasNoChange, HasLastChange}
 use Rattle.history_judge.proofs.Runs.{IsRun, run_of, value_before, changed_last, left_then, left_then-at}
 use Rattle.history_judge.proofs.Runs.{found_at-within, left_at-within}
 
--- the source of a reader stands before it, and nothing between them changes the word
+-- the source of a reader comes before it, and nothing between them changes the word
 record IsApart (word : ℕ) (history : List Access) (order : List ℕ) (source to : ℕ) : Type 0 where
   from : ℕ
   stands : slice_get order from ≡ Some source

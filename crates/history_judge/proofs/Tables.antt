@@ -12,12 +12,12 @@ use Rattle.history_judge.specs.declared.writers.Writer.TheVariants as writers
 use Rattle.history_judge.specs.declared.writers.Writers.{Writers}
 use Rattle.history_judge.proofs.Runs.{left_at-some, left_at-within}
 
--- of the first accesses one alone left the value
+-- only this one of the first accesses left the value
 pub record IsAloneUpTo (word : ℕ) (history : List Access) (k v w : ℕ) : Type 0 where
   pub left : left_at word history w ≡ Some v
   pub alone : (i : ℕ) → i < k → left_at word history i ≡ Some v → i ≡ w
 
--- what is said of a value is so of the first accesses
+-- the recorded writer of a value is right for the first accesses
 abbrev pub IsWriterUpTo : ℕ → List Access → ℕ → ℕ → Option Writer → Type 0
 IsWriterUpTo word history k v None = (i : ℕ) → i < k → left_at word history i ≢ Some v
 IsWriterUpTo word history k v (Some (writers.One w)) = IsAloneUpTo word history k v w

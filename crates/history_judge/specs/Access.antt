@@ -6,7 +6,7 @@ use Rattle.slice_log.specs.declared.entry.Entry.{Entry}
 use Rattle.history_judge.specs.declared.access.Access.{Access}
 
 -- The entry that performs an access. Its seq is the access's place in the history, so a core's entries are in its
--- order where their seqs ascend.
+-- order if their seqs ascend.
 abbrev pub entry_of : ℕ → Access → Entry
 entry_of number a = record {
   op = a.op;
@@ -28,11 +28,11 @@ found_from (ops.Cas expect new) reply = Some reply
 abbrev pub found_by : Access → Option ℕ
 found_by a = found_from a.op a.reply
 
--- the value now, where it isn't the one that was
+-- the new value, if it isn't the old one
 abbrev pub changed : ℕ → ℕ → Option ℕ
 changed was now = if was == now then None else Some now
 
--- the value that an access with this reply left in its word, where it isn't the one that it found
+-- the value that an access with this reply left in its word, if it isn't the one that it found
 abbrev pub left_by : Op → ℕ → Option ℕ
 left_by ops.Load reply = None
 left_by (ops.Store new) reply = Some (new % 2 ^ 64)

@@ -6,7 +6,7 @@ use Rattle.slice_log.specs.declared.entry.Entry.{Entry}
 use Rattle.history_judge.specs.Access.{entry_of}
 use Rattle.history_judge.specs.declared.access.Access.{Access}
 
--- what stands past the end of a history
+-- the default past the end of a history
 abbrev pub no_access : Access
 no_access = record {
   op = ops.Load;
@@ -30,12 +30,12 @@ pub record StandsOnce (order : List ℕ) (i : ℕ) : Type 0 where
   pub stands : slice_get order place ≡ Some i
   pub alone : (k : ℕ) → slice_get order k ≡ Some i → k ≡ place
 
--- the order has each of so many accesses once, and nothing else
+-- the order has each of `count` accesses once, and nothing else
 pub record HasEachOnce (count : ℕ) (order : List ℕ) : Type 0 where
   pub within : (k i : ℕ) → slice_get order k ≡ Some i → i < count
   pub once : (i : ℕ) → i < count → StandsOnce order i
 
--- of two accesses of one core, on whichever words, the one that it asked for first stands first
+-- of two accesses of one core, on any words, the one that it requested first comes first
 abbrev pub KeepsCores : List Access → List ℕ → Type 0
 KeepsCores history order =
     (j k a b : ℕ) (d e : Access) → j < k → slice_get order j ≡ Some a → slice_get order k ≡ Some b

@@ -8,7 +8,7 @@ use Rattle.history_judge.specs.declared.writers.Writer.TheVariants as writers
 use Rattle.history_judge.specs.declared.writers.Writers.{Writers}
 use Rattle.history_judge.specs.declared.writers.Tables.{Tables}
 
--- the value that the access at a place left in the word, where it changed it
+-- the value that the access at a place left in the word, if it changed it
 abbrev pub left_at : ℕ → List Access → ℕ → Option ℕ
 left_at word history i = option_and_then (left_in word) (slice_get history i)
 
@@ -17,13 +17,13 @@ pub record IsAlone (word : ℕ) (history : List Access) (v w : ℕ) : Type 0 whe
   pub left : left_at word history w ≡ Some v
   pub alone : (i : ℕ) → left_at word history i ≡ Some v → i ≡ w
 
--- what is said of a value is so: none left it, or this one alone did
+-- the recorded writer of a value is right: none left it, or this one alone did
 unfoldable pub IsWriterOf : ℕ → List Access → ℕ → Option Writer → Type 0
 IsWriterOf word history v None = (i : ℕ) → left_at word history i ≢ Some v
 IsWriterOf word history v (Some (writers.One w)) = IsAlone word history v w
 IsWriterOf word history v (Some writers.Several) = Unit {0}
 
--- what is said of a value that one more access left
+-- the recorded writer of a value that one more access left
 abbrev pub writer_with : Option Writer → ℕ → Writer
 writer_with None place = writers.One place
 writer_with (Some writer) place = writers.Several

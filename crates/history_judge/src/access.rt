@@ -9,8 +9,7 @@ use slice_log::{Entry, performed};
 pub struct Access {
     pub op: Op,
     pub reply: u64,
-    /// When it began and ended, by a counter that all cores share. An access of which neither is known began at 0 and
-    /// ended at `u64::MAX`.
+    /// When it began and ended, by a counter that all cores share. If neither is known they are 0 and `u64::MAX`.
     pub begin: u64,
     pub end: u64,
     pub word: WordAddr,
@@ -18,7 +17,7 @@ pub struct Access {
 }
 
 impl Access {
-    /// Returns an access of which it isn't known when it began and ended.
+    /// Returns an access whose begin and end aren't known.
     pub fn untimed(core: CoreId, word: WordAddr, op: Op, reply: u64) -> Self
         ensures { result
             ≡ record { op = op; reply = reply; begin = 0; end = u64.MAX; word = word; core = core } }
@@ -33,7 +32,7 @@ impl Access {
         }
     }
 
-    /// Returns the entry of a trace that performs the access, which has this place in its history.
+    /// Returns the entry of a trace that performs the access, whose place in its history is `number`.
     pub fn entry(&self, number: usize) -> Entry
         ensures { result ≡ entry_of number self.now }
     {
@@ -48,7 +47,7 @@ impl Access {
         }
     }
 
-    /// Returns the value that the access found in its word, which a store doesn't tell.
+    /// Returns the value that the access found in its word, which isn't known for a store.
     pub fn found(&self) -> Option<u64>
         ensures { result ≡ found_by self.now }
     {

@@ -3,7 +3,7 @@ ghost use Rattle.address_map.specs.Words.{initial_value};
 
 use address_map::WordAddr;
 
-/// Returns the value that the word begins with, where words begin with these values, and others with 0.
+/// Returns the initial value of the word: its value in `initial`, or 0.
 pub fn initial_of(initial: &[(WordAddr, u64)], word: WordAddr) -> u64
     ensures { result ≡ initial_value initial.now word }
 {

@@ -10,7 +10,7 @@ use slice_log::{Entry, performed, reply_to};
 use std::alloc::{AllocError, Global};
 use std::collections::HashMap;
 
-/// How many cores can be named.
+/// The number of cores that can be named.
 const CORES: usize = 256;
 
 /// Returns the trace that performs the accesses in this order.
@@ -25,7 +25,7 @@ pub fn trace(alloc: Global, history: &[Access], order: &[usize]) -> Result<Vec<E
     Ok(entries)
 }
 
-/// Whether the accesses may have been performed in this order, where words begin with these values, and others with 0.
+/// Whether the accesses may have been performed in this order, if words begin with these values, and others with 0.
 pub fn is_order(
     alloc: Global,
     initial: &[(WordAddr, u64)],
@@ -46,7 +46,7 @@ pub fn is_order(
     explains_replies(alloc, initial, history, order)
 }
 
-// Whether the order has each of so many accesses once.
+// Whether the order has each of `count` accesses once.
 fn has_each_once(alloc: Global, count: usize, order: &[usize]) -> Result<bool, AllocError>
     ensures { IfOk result (λ yes. IsTrue yes ↔ HasEachOnce count order.now) }
 {
@@ -85,7 +85,7 @@ fn explains_replies(
     ensures { IfOk result (λ yes. HasEachOnce (length history.now) order.now
         → (IsTrue yes ↔ IsLegal (initially initial.now) (trace_of history.now order.now))) }
 {
-    // the value of each word of which an access was met
+    // the value of each word that was accessed so far
     let mut values = HashMap::new(alloc);
     for place in order {
         let Some(access) = access_at(history, *place) else {
@@ -100,7 +100,7 @@ fn explains_replies(
     Ok(true)
 }
 
-// The value that a word has now.
+// Returns the current value of a word.
 fn value_of(values: &HashMap<u64, u64>, initial: &[(WordAddr, u64)], word: WordAddr) -> u64
     ensures { result ≡ unwrap_or (get nat_eq values.now word.0) (initially initial.now word.0) }
 {
@@ -115,7 +115,7 @@ fn keeps_cores(alloc: Global, history: &[Access], order: &[usize]) -> Result<boo
     ensures { IfOk result (λ yes. HasEachOnce (length history.now) order.now
         → (IsTrue yes ↔ KeepsCores history.now order.now)) }
 {
-    // each access of a core that was met is before its bound
+    // each access of a core so far is before its bound
     let mut bounds = vec![in alloc; 0; CORES]?;
     for place in order {
         let Some(access) = access_at(history, *place) else {

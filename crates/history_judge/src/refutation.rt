@@ -15,8 +15,8 @@ use std::alloc::{AllocError, Global};
 pub enum Contradiction {
     /// This access found a value that isn't the initial one and that no access left.
     Unwritten(usize),
-    /// An access would have to be performed before itself: the last chain leads back to where it begins, and links of a
-    /// chain may be what those before it came to.
+    /// An access would have to be performed before itself: the last chain leads back to its start. Links of a chain may
+    /// be the results of those before it.
     Circle(Vec<Chain>),
 }
 
@@ -37,7 +37,7 @@ pub struct Link {
 
 #[derive(Clone, Copy, Debug, PartialEq, Eq)]
 pub enum Why {
-    /// Their core asked for them in this order.
+    /// Their core requested them in this order.
     Core,
     /// The one ended before the other began.
     Interval,
@@ -45,11 +45,11 @@ pub enum Why {
     Source,
     /// The one found the initial value, which no access leaves, and the other changes the word.
     Initial,
-    /// The chain of this number, from 0, came to that.
+    /// It is the result of the chain of this number, from 0.
     Shown(usize),
 }
 
-/// What follows, where a first access comes before a last one.
+/// What follows if a first access comes before a last one.
 #[derive(Clone, Copy, Debug, PartialEq, Eq)]
 pub enum Step {
     /// The last one comes before this one, so the first does.
@@ -60,7 +60,7 @@ pub enum Step {
     Lower(usize),
 }
 
-/// Whether the contradiction shows that no order explains the history, where words begin with these values, and others
+/// Whether the contradiction shows that no order explains the history, if words begin with these values, and others
 /// with 0.
 pub fn is_refuted(
     alloc: Global,
@@ -123,7 +123,7 @@ fn is_circle(
     Ok(false)
 }
 
-// The two accesses of which the chain shows that the one comes before the other.
+// Returns the two accesses that the chain shows to come in this order.
 fn shown_by(
     initial: &[(WordAddr, u64)],
     history: &[Access],
@@ -150,7 +150,7 @@ fn shown_by(
     Some((first, last))
 }
 
-// The two accesses after a step.
+// Returns the two accesses after a step.
 fn followed(
     initial: &[(WordAddr, u64)],
     history: &[Access],
@@ -263,7 +263,7 @@ fn comes_first(
     }
 }
 
-// Whether the chain of this number came to that.
+// Whether this is the result of the chain of this number.
 fn is_shown(shown: &[(usize, usize)], number: usize, first: usize, last: usize) -> bool
     ensures { IsTrue result → slice_get shown.now number ≡ Some (first, last) }
 {

@@ -1,4 +1,4 @@
-//! Proposes an order or a contradiction. Nothing of what is proposed is proved here: `judge` checks it.
+//! Proposes an order or a contradiction. Nothing is proved about it here: `judge` checks it.
 
 use super::access::Access;
 use super::refutation::Contradiction;
@@ -65,7 +65,7 @@ fn is_of_one_word(history: &[Access]) -> bool {
     }
 }
 
-// Orders the accesses of several words, as far as a contradiction or an order is found.
+// Orders the accesses of several words, if a contradiction or an order is found.
 fn of_words(
     alloc: Global,
     initial: &[(WordAddr, u64)],

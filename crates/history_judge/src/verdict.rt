@@ -9,7 +9,7 @@ use super::search::proposed;
 use address_map::WordAddr;
 use std::alloc::{AllocError, Global};
 
-/// What a history comes to.
+/// The judgement of a history.
 #[derive(Debug, Drop)]
 pub enum Judgement {
     /// The accesses may have been performed in this order, which names them by their places in the history.
@@ -20,9 +20,9 @@ pub enum Judgement {
     Undecided,
 }
 
-/// Judges a history of a word, or of several that are asked to have one order, as those of a line are. Words begin with
+/// Judges a history of a word, or of several words that must have one order, like those of a line. Words begin with
 /// these values, and others with 0. Each core's accesses are in its order, and those of several cores are mixed in any
-/// way. At most `limit` steps are taken to try orders, where values repeat or several words are judged.
+/// way. At most `limit` steps are taken to try orders, if values repeat or several words are judged.
 pub fn judge(
     alloc: Global,
     initial: &[(WordAddr, u64)],

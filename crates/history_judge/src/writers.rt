@@ -83,7 +83,7 @@ impl Tables {
     }
 }
 
-// What is said of a value that this access left too.
+// Returns the writer of a value that this access left too.
 fn with(before: Option<Writer>, place: usize) -> Writer
     ensures { result ≡ writer_with before place }
 {

@@ -1,4 +1,4 @@
--- What words are that write lines of a history.
+-- Words that write lines of a history.
 use Rattle.std.proofs.Common.{◌≡◌, ℕ, ◌<◌, ◌≤◌, ◌-◌, arith, drop, take, length, map, List, [], ◌∷◌, ◌++◌, get_or, eqb, eq-eqb, false, true, refl, sym, ap, ◌∙◌, subst}
 use Rattle.std.proofs.lemmas.List.{take_all}
 use Rattle.std.specs.Prelude.{codes, Option, Some, None, Result, Ok, Err, IfOk, IfErr}
@@ -21,7 +21,7 @@ two_names word a b h k other =
 
 -- ---- accesses
 
--- words of another name tell of no access, nor do none
+-- words of another name write no access, nor do none
 pub other_name : (name : List ℕ) (rest : List (List ℕ)) (op : Op) (word reply : ℕ) → (name ≡ codes "load" → ⊥)
     → (name ≡ codes "store" → ⊥) → (name ≡ codes "add" → ⊥) → (name ≡ codes "cas" → ⊥)
     → IsTold (name ∷ rest) op word reply → ⊥
@@ -165,7 +165,7 @@ last_same (a ∷ xs) (b ∷ ys) x y e =
 pub none_without_words : (front : List (List ℕ)) (times : List ℕ) → [] ≡ front ++ (64 ∷ times) ∷ [] → ⊥
 none_without_words front times e = last_some front (64 ∷ times) e
 
--- .. and those don't whose last begins otherwise
+-- .. nor do words whose last begins otherwise
 pub none_of_last : (words : List (List ℕ)) (last : List ℕ) → ((times : List ℕ) → last ≡ 64 ∷ times → ⊥)
     → (front : List (List ℕ)) (times : List ℕ) → words ++ last ∷ [] ≡ front ++ (64 ∷ times) ∷ [] → ⊥
 none_of_last words last other front times e = other times (last_same words front last (64 ∷ times) e).1
@@ -226,7 +226,7 @@ untimed core behind line none is =
     (subst (λ ws. IsParted ws l.told l.times) same_behind l.parted) l.during
     (subst (λ w. IsAccessBy w l.told l.begin l.end line) same_core l.is)
 
--- words that tell of an access of a core, with its times or without, are its line
+-- words that write an access of a core, with its times or without, are its line
 timed_line : (core : List ℕ) (behind told : List (List ℕ)) (times : List ℕ) (begin end : ℕ) (line : HistoryLine)
     → behind ≡ told ++ (64 ∷ times) ∷ [] → IsInterval times begin end → IsAccessBy core told begin end line
     → IsLineOf (codes "core" ∷ core ∷ behind) line

@@ -19,7 +19,7 @@ use Rattle.history_text.specs.declared.histories.Histories.{Histories}
 use Rattle.history_text.specs.declared.history_line.HistoryLine.{HistoryLine}
 use Rattle.history_text.specs.declared.history_line.HistoryLine.TheVariants as history_lines
 
--- of these statements some were read, and these are the histories of which their lines tell
+-- of these statements some were read, and these are the histories in their lines
 pub record IsReading (all left : List (ℕ × List (List ℕ))) (histories : Histories) : Type 0 where
   pub done : List (ℕ × List (List ℕ))
   pub split : done ++ left ≡ all
@@ -101,7 +101,7 @@ reading_all all left histories none reading =
       are = reading.are;
     }
 
--- the statement that is left first is at fault, where its words write no line that may stand there
+-- the first remaining statement is invalid if its words write no line that may be there
 pub first_fault : (all left : List (ℕ × List (List ℕ))) (s : ℕ × List (List ℕ)) (histories : Histories)
     (fault : TextFault) → IsReading all (s ∷ left) histories
     → IsNoMemoryOrAt (λ number. (number ≡ s.0)

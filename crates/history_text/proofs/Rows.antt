@@ -1,4 +1,4 @@
--- What is told of each word or line, as lines are added; and their orders, one after another.
+-- The history of each word or line, as lines are added; and their orders, one after another.
 use Rattle.std.proofs.Common.{◌≡◌, ◌≢◌, ℕ, ◌+◌, ◌<◌, ◌≤◌, Bool, true, false, cond, eqb, eq-eqb, List, [], ◌∷◌, ◌++◌, length}
 use Rattle.std.proofs.Common.{zero, suc, refl, sym, ap, ◌∙◌, subst, arith, inl, inr, length-append, append-nil, filter_map}
 use Rattle.std.specs.Prelude.{slice_get, Option, Some, None, Vec}
@@ -127,7 +127,7 @@ same_value extent w (history_lines.Init word value ∷ told) =
 nowhere : {X : Type 0} (xs : List X) (k : ℕ) (x : X) → length xs ≡ 0 → slice_get xs k ≡ Some x → ⊥
 nowhere xs k x none stands = let within : k < length xs = slice_get_within xs k x stands in omega arith
 
--- where there is no access there is an order
+-- if there is no access there is an order
 nothing_to_order : (initial : ℕ → ℕ) → IsOrderOf initial [] []
 nothing_to_order initial = record {
   each_once = record {
@@ -197,7 +197,7 @@ ordered_all initial rows orders k all are r = elim (cases_lt r k) [
       (subst (λ o. IsOrderOf (initial r) [] (order_of o)) (sym no_order) (nothing_to_order (initial r)))
 ]
 
--- what histories come to is what the lines do of which they are told
+-- the verdict on histories is that on the lines from which they are read
 pub verdict_on_told : (histories : Histories) (told : List HistoryLine) (verdict : Verdict) → AreTold histories told
     → IsVerdictOn (inits_at histories) (accesses_at histories) verdict
     → IsVerdictOn (λ r. inits_in histories.extent r told) (λ r. accesses_in histories.extent r told) verdict

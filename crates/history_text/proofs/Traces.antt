@@ -77,7 +77,7 @@ reading_all version all left read none reading =
     sym (append-nil reading.done) ∙ sym (ap (λ ss. reading.done ++ ss) none) ∙ reading.split in
     subst (λ ss. AreLines version ss read) whole reading.written
 
--- .. and these are the histories that they tell of
+-- .. and these are the histories in them
 pub record IsReadingTrace (version : Version) (all left : List (ℕ × List (List ℕ)))
     (histories : Histories) : Type 0 where
   pub read : List TraceLine
@@ -131,7 +131,7 @@ one_version [] a b h k = absurd h
 one_version (w ∷ []) a b h k = absurd h.1
 one_version (w ∷ v ∷ ws) a b h k = one_number v a b h.1.0 k.1.0
 
--- a text that is a trace says something
+-- a text that is a trace isn't empty
 pub says_something : (text : List ℕ) → IsSomeTrace text → statements_from 0 (lines text) ≡ [] → ⊥
 says_something text some none =
     let trace = some.1.1.1 in
@@ -167,7 +167,7 @@ pub never_without_version : (text : List ℕ) (number : ℕ) (first : List (List
 never_without_version text number first rest some is refused =
     let goes = goes_on text number first rest some is in refused goes.version goes.begins
 
--- what lines after the first tell of is what the text does
+-- the histories in the lines after the first are those in the text
 pub trace_told : (text : List ℕ) (number : ℕ) (first : List (List ℕ)) (rest : List (ℕ × List (List ℕ)))
     (version : Version) (histories : Histories) → IsSomeTrace text
     → statements_from 0 (lines text) ≡ (number, first) ∷ rest → Writes first (parts_of_first version)

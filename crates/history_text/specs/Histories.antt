@@ -1,4 +1,4 @@
--- The histories of words or of lines, as the lines of a text tell of them.
+-- The histories of words or of lines, by the lines of a text.
 use Rattle.std.specs.Prelude.{◌≡◌, ℕ, ◌/◌, ◌==◌, if◌then◌else◌, List, [], filter_map, find, slice_get, Option, Some, None}
 use Rattle.std.specs.Option.{option_map}
 use Rattle.address_map.specs.declared.address.WordAddr.{WordAddr}
@@ -13,7 +13,7 @@ use Rattle.history_text.specs.declared.histories.History.{History}
 use Rattle.history_text.specs.declared.history_line.HistoryLine.{HistoryLine}
 use Rattle.history_text.specs.declared.history_line.HistoryLine.TheVariants as history_lines
 
--- with what a word is judged: the word itself, or its line
+-- what a word is judged with: the word itself, or its line
 abbrev pub row_of : Extent → ℕ → ℕ
 row_of extents.Word w = w
 row_of extents.Line w = w / 8
@@ -42,7 +42,7 @@ value_in given w = option_map (λ pair. pair.1) (find (λ pair. pair.0.0 == w) g
 abbrev pub given_in : ℕ → List HistoryLine → Option ℕ
 given_in w lines = value_in (inits_in extents.Word w lines) w
 
--- what a line of a trace says of a word: an entry as its core saw it, of which it isn't known when it began and ended
+-- what a line of a trace says of a word: an entry as its core saw it, without the times when it began and ended
 abbrev pub access_of : Entry → Access
 access_of e =
     record { op = e.op; reply = e.reply; begin = 0; end = 18446744073709551615; word = e.word; core = e.core }
@@ -70,7 +70,7 @@ accesses_at histories r = accesses_of (slice_get histories.rows.items r)
 abbrev pub given_at : Histories → ℕ → Option ℕ
 given_at histories w = value_in (inits_at histories (row_of histories.extent w)) w
 
--- these are the histories, as the lines tell of them
+-- these are the histories in the lines
 pub record AreTold (histories : Histories) (lines : List HistoryLine) : Type 0 where
   pub inits : (r : ℕ) → inits_at histories r ≡ inits_in histories.extent r lines
   pub accesses : (r : ℕ) → accesses_at histories r ≡ accesses_in histories.extent r lines

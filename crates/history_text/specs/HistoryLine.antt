@@ -22,7 +22,7 @@ parts_of_history = key (codes "lockup-history") ∷ key (codes "1") ∷ []
 abbrev pub IsNumberOf : List ℕ → ℕ → Type 0
 IsNumberOf text n = IsNumber text × (digits_value 10 text ≡ n)
 
--- the words tell of an access, with its reply, which for a store is 0 and isn't told
+-- the words write an access, with its reply, which for a store is 0 and isn't written
 unfoldable pub IsTold : List (List ℕ) → Op → ℕ → ℕ → Type 0
 IsTold words ops.Load word reply = Writes words (key (codes "load") ∷ num word ∷ num reply ∷ [])
 IsTold words (ops.Store value) word reply =
@@ -35,7 +35,7 @@ IsTold words (ops.Cas expect new) word reply =
 abbrev pub is_dot : ℕ → Bool
 is_dot b = b == 46
 
--- the text is BEGIN..END, parted by its first dot
+-- the text is BEGIN..END, split at its first dot
 pub record IsInterval (text : List ℕ) (begin end : ℕ) : Type 0 where
   pub at : ℕ
   pub parted : position is_dot text ≡ Some at
@@ -43,12 +43,12 @@ pub record IsInterval (text : List ℕ) (begin end : ℕ) : Type 0 where
   pub second_dot : slice_index text (at + 1) ≡ 46
   pub behind : IsNumberOf (drop (at + 2) text) end
 
--- the words are those that tell of an access, and then those of its times, after an @
+-- the words are those of an access, and then those of its times, after an @
 abbrev pub IsParted : List (List ℕ) → List (List ℕ) → Option (List ℕ) → Type 0
 IsParted words told None = (words ≡ told) × ((front : List (List ℕ)) (times : List ℕ) → words ≢ front ++ (64 ∷ times) ∷ [])
 IsParted words told (Some times) = words ≡ told ++ (64 ∷ times) ∷ []
 
--- when an access began and ended: at any time where nothing says it
+-- when an access began and ended: at any time if no times are given
 abbrev pub IsDuring : Option (List ℕ) → ℕ → ℕ → Type 0
 IsDuring None begin end = (begin ≡ 0) × (end ≡ 18446744073709551615)
 IsDuring (Some times) begin end = IsInterval times begin end
@@ -59,7 +59,7 @@ pub record IsInRange (access : Access) : Type 0 where
   pub word_in : access.word.0 < MOST_WORDS
   pub in_order : access.begin ≤ access.end
 
--- the line is the access of this core that the words tell of, with these times
+-- the line is the access of this core that the words write, with these times
 unfoldable pub IsAccessBy : List ℕ → List (List ℕ) → ℕ → ℕ → HistoryLine → Type 0
 IsAccessBy core told begin end (history_lines.Init word value) = ⊥
 IsAccessBy core told begin end (history_lines.Access access) =
@@ -90,7 +90,7 @@ pub record ReadsAsLine (words : List (List ℕ)) (result : Result HistoryLine Li
   pub written : IfOk result (IsLineOf words)
   pub refused : IfErr result (λ fault. (line : HistoryLine) → IsLineOf words line → ⊥)
 
--- words are read as an access that they tell of, of the one word of which they tell, or they tell of none
+-- words are read as an access that they write, of the only word that they name, or they write none
 pub record ReadsAsTold (words : List (List ℕ)) (result : Result Told LineFault) : Type 0 where
   pub told : IfOk result (λ it. IsTold words it.op it.word it.reply)
   pub only : IfOk result (λ it. (op : Op) (word reply : ℕ) → IsTold words op word reply → word ≡ it.word)

@@ -1,4 +1,4 @@
--- What the histories of a text's words come to.
+-- The verdict on the histories of a text's words.
 use Rattle.std.specs.Prelude.{◌≡◌, ◌≢◌, ◌⊎◌, ℕ, List, [], ◌∷◌, ◌++◌, map, Option, None, Some, slice_get, Vec}
 use Rattle.std.specs.Str.Lines.{lines}
 use Rattle.std.specs.declared.alloc.Global.{Global}
@@ -53,14 +53,14 @@ pub record AreLinesOf (text : List ℕ) (behind : List TraceLine) : Type 0 where
   pub begins : Writes first (parts_of_first version)
   pub written : AreLines version rest behind
 
--- the text is a trace whose entries tell of these accesses
+-- the text is a trace whose entries are these accesses
 pub record IsTraceThatTells (text : List ℕ) (told : List HistoryLine) : Type 0 where
   pub trace : IsSomeTrace text
   pub behind : List TraceLine
   pub written : AreLinesOf text behind
   pub is : told ≡ map line_of behind
 
--- the statements write lines of a trace that tell of these histories
+-- the statements write lines of a trace with these histories
 pub record AreLinesToldBy (version : Version) (statements : List (ℕ × List (List ℕ))) (histories : Histories)
     : Type 0 where
   pub behind : List TraceLine
@@ -107,7 +107,7 @@ pub record ReadsTo (statements : List (ℕ × List (List ℕ))) (histories : His
   pub once : AreFresh [] told
   pub are : AreTold histories told
 
--- what was read of one statement more
+-- what was read of one more statement
 pub record ReadsNext (before : List HistoryLine) (words : List (List ℕ)) (histories : Histories) : Type 0 where
   pub line : HistoryLine
   pub written : IsLineOf words line
@@ -119,13 +119,13 @@ pub record ReadsNext (before : List HistoryLine) (words : List (List ℕ)) (hist
 abbrev pub Tells : List ℕ → List HistoryLine → Type 0
 Tells text told = IsTraceThatTells text told ⊎ IsHistory text told
 
--- the histories that a text tells of
+-- the histories in a text
 pub record AreHistoriesOf (text : List ℕ) (histories : Histories) : Type 0 where
   pub told : List HistoryLine
   pub tells : Tells text told
   pub are : AreTold histories told
 
--- .. come to this
+-- .. and their verdict
 pub record IsJudgedText (text : List ℕ) (extent : Extent) (verdict : Verdict) : Type 0 where
   pub told : List HistoryLine
   pub tells : Tells text told
@@ -148,7 +148,7 @@ IsNoNext before words =
     ((line : HistoryLine) → IsLineOf words line → ⊥)
     ⊎ ((line : HistoryLine) × (IsLineOf words line × IsGivenAgain before line))
 
--- the statement of this number is the first that writes no line which may stand there
+-- the statement of this number is the first that writes no line that may be there
 pub record IsFaultIn (statements : List (ℕ × List (List ℕ))) (number : ℕ) : Type 0 where
   pub before : List (ℕ × List (List ℕ))
   pub words : List (List ℕ)
@@ -174,7 +174,7 @@ pub record IsFaultOfOther (text : List ℕ) (number : ℕ) (fault : LineFault) :
   pub line : IsFaultAt (statements_from 0 (lines text)) number
   pub is : IsFaultOfTrace (statements_from 0 (lines text)) number fault
 
--- why a text tells of no histories: there was no memory, or this line is the first at fault
+-- why a text has no histories: memory ran out, or this line is the first invalid one
 unfoldable pub IsFaultOf : List ℕ → TextFault → Type 0
 IsFaultOf text text_faults.NoMemory = Unit {0}
 IsFaultOf text (text_faults.Line number fault) =
@@ -182,7 +182,7 @@ IsFaultOf text (text_faults.Line number fault) =
 IsFaultOf text (text_faults.Config error) = ⊥
 IsFaultOf text text_faults.CannotWrite = ⊥
 
--- .. where lines are read: there was no memory, or a line is at fault, of which this holds
+-- .. while lines are read: memory ran out, or a line for which this holds is invalid
 unfoldable pub IsNoMemoryOrAt : (ℕ → Type 0) → TextFault → Type 0
 IsNoMemoryOrAt holds text_faults.NoMemory = Unit {0}
 IsNoMemoryOrAt holds (text_faults.Line number fault) = holds number

@@ -1,11 +1,11 @@
-//! Why accesses have no order, in the numbers by which they are told.
+//! Why accesses have no order, with the numbers under which they are reported.
 
 use super::histories::History;
 use history_judge::{Chain, Contradiction, Link, Step, Why};
 use std::alloc::{AllocError, Global};
 
-/// An access that contradicts all orders, or what comes before what. Accesses are named by the numbers by which they
-/// are told, which for a text are those of its lines.
+/// An access that contradicts all orders, or what comes before what. Accesses are named by the numbers under which
+/// they are reported, which for a text are those of its lines.
 #[derive(Clone, Copy, Debug, PartialEq, Eq)]
 pub enum Claim {
     /// The access in this line got this value, which no access left.
@@ -29,7 +29,7 @@ pub enum Claim {
 /// Why one access comes before another.
 #[derive(Clone, Copy, Debug, PartialEq, Eq)]
 pub enum Reason {
-    /// This core asked for both.
+    /// This core requested both.
     Core(u8),
     /// The one had ended when the other began.
     Interval,
@@ -45,7 +45,7 @@ pub enum Reason {
     NotBetween { value: u64, reader: usize },
 }
 
-/// What a contradiction of this history says, one claim after another.
+/// Returns what a contradiction of this history says, one claim after another.
 pub fn claims_of(
     alloc: Global,
     history: &History,
@@ -67,7 +67,7 @@ pub fn claims_of(
     Ok(claims)
 }
 
-// A chain that doesn't lead back to where it begins ends in what follows from it.
+// A chain that doesn't lead back to its start ends in what follows from it.
 fn push_chain(history: &History, chain: &Chain, claims: &mut Vec<Claim>) -> Result<(), AllocError> {
     let Link { first, last, why } = chain.start;
     claims.push(linked(history, first, last, why))?;
@@ -85,7 +85,7 @@ fn push_chain(history: &History, chain: &Chain, claims: &mut Vec<Claim>) -> Resu
     Ok(())
 }
 
-/// The two accesses after a step.
+/// Returns the two accesses after a step.
 const fn after(first: usize, last: usize, step: Step) -> (usize, usize) {
     match step {
         Step::Next(access, _) | Step::Lower(access) => (first, access),
@@ -93,7 +93,7 @@ const fn after(first: usize, last: usize, step: Step) -> (usize, usize) {
     }
 }
 
-/// That one access comes before another, and why.
+/// Returns the claim that one access comes before another, and why.
 fn linked(history: &History, first: usize, last: usize, why: Why) -> Claim {
     let reason = match why {
         Why::Core => Reason::Core(core_of(history, first)),
@@ -109,7 +109,7 @@ fn linked(history: &History, first: usize, last: usize, why: Why) -> Claim {
     }
 }
 
-/// What follows, where the first access comes before the last.
+/// Returns what follows if the first access comes before the last.
 fn followed(history: &History, first: usize, last: usize, step: Step) -> Claim {
     match step {
         Step::Next(access, why) => linked(history, last, access, why),

@@ -8,12 +8,12 @@ use address_map::WordAddr;
 pub enum Extent {
     /// Each word by itself.
     Word,
-    /// The eight words of a line, whose accesses are to have one order.
+    /// The eight words of a line, whose accesses must have one order.
     Line,
 }
 
 impl Extent {
-    /// The number of the word, or of its line.
+    /// Returns the number of the word, or of its line.
     pub const fn row_of(self, word: WordAddr) -> u64
         ensures { result ≡ row_of self word.0 }
     {

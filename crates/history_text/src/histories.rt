@@ -10,28 +10,28 @@ use address_map::WordAddr;
 use history_judge::Access;
 use std::alloc::{AllocError, Global};
 
-/// What is told of a word, or of the words of a line.
+/// The history of a word, or of the words of a line.
 #[derive(Debug, Drop)]
 pub struct History {
-    /// The values with which words begin that were given one: others begin with 0.
+    /// The initial values of words that were given one: others begin with 0.
     pub given: Vec<(WordAddr, u64)>,
     /// The accesses, each core's in its order.
     pub accesses: Vec<Access>,
-    /// The number by which each of them is told: that of its line, where a text tells of them.
+    /// The number under which each of them is reported: that of its line, if they are read from a text.
     pub numbers: Vec<usize>,
 }
 
 /// The histories of words or of lines.
 #[derive(Debug, Drop)]
 pub struct Histories {
-    /// By word or by line, up to the last of which something is told.
+    /// By word or by line, up to the last with a history.
     pub(super) rows: Vec<History>,
     pub(super) extent: Extent,
     pub(super) alloc: Global,
 }
 
 impl Histories {
-    /// Nothing is told of any word.
+    /// Creates empty histories.
     pub fn new(alloc: Global, extent: Extent) -> Self
         ensures told { AreTold result [] }
         ensures extent { result.extent ≡ extent }
@@ -43,14 +43,14 @@ impl Histories {
         }
     }
 
-    /// Which words are judged together.
+    /// Returns which words are judged together.
     pub fn extent(&self) -> Extent
         ensures { result ≡ self.now.extent }
     {
         self.extent
     }
 
-    /// What is told of the word or the line with this number, if anything.
+    /// Returns the history of the word or the line with this number, if it has one.
     pub fn history(&self, row: u64) -> Option<&History>
         ensures given { inits_of (option_map (λ it. it.now) result) ≡ inits_at self.now row }
         ensures accesses { accesses_of (option_map (λ it. it.now) result) ≡ accesses_at self.now row }
@@ -58,7 +58,7 @@ impl Histories {
         self.rows.get(row as usize)
     }
 
-    /// The value that a word was given to begin with.
+    /// Returns the initial value that a word was given.
     pub fn given(&self, word: WordAddr) -> Option<u64>
         ensures { result ≡ given_at self.now word.0 }
     {
@@ -68,7 +68,7 @@ impl Histories {
         }
     }
 
-    /// Gives a word the value that it begins with. If it was given one, that stays its value.
+    /// Gives a word its initial value. If it was given one, that stays its value.
     pub fn begin(&mut self, word: WordAddr, value: u64) -> Result<(), AllocError>
         ensures inits { OnOk result ((r : ℕ) → inits_at self.new r ≡ (if row_of self.old.extent word.0 == r
             then inits_at self.old r ++ (word, value) ∷ [] else inits_at self.old r)) }
@@ -81,7 +81,7 @@ impl Histories {
         Ok(())
     }
 
-    /// Takes the next access, which is told by this number.
+    /// Takes the next access, which is reported under this number.
     pub fn take(&mut self, access: Access, number: usize) -> Result<(), AllocError>
         ensures inits { OnOk result ((r : ℕ) → inits_at self.new r ≡ inits_at self.old r) }
         ensures accesses { OnOk result ((r : ℕ) → accesses_at self.new r
@@ -96,7 +96,7 @@ impl Histories {
         Ok(())
     }
 
-    /// Takes what one more line tells.
+    /// Takes one more line.
     #[tactic(auto, using(crate::proofs::Rows::told_access, crate::proofs::Rows::told_init))]
     pub(super) fn tell(&mut self, line: HistoryLine, number: usize) -> Result<(), AllocError>
         ensures told { OnOk result ((told : List HistoryLine) → AreTold self.old told
@@ -110,7 +110,7 @@ impl Histories {
         Ok(())
     }
 
-    // The row is there from now on.
+    // Makes room for the row.
     fn make_room(&mut self, row: usize) -> Result<(), AllocError>
         ensures there { OnOk result (row < length self.new.rows.items) }
         ensures inits { (r : ℕ) → inits_at self.new r ≡ inits_at self.old r }
@@ -129,7 +129,7 @@ impl Histories {
     }
 }
 
-// The first value that the word has among these.
+// Returns the first value that the word has among these.
 fn value_in(given: &[(WordAddr, u64)], word: WordAddr) -> Option<u64>
     ensures { result ≡ value_in given.now word.0 }
 {

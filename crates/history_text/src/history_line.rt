@@ -17,7 +17,7 @@ pub enum HistoryLine {
     Access(Access),
 }
 
-/// What a core asked of a word, and what it was answered: 0 to a store.
+/// A core's request to a word, and its reply: 0 to a store.
 #[derive(Clone, Copy)]
 pub(super) struct Told {
     pub op: Op,
@@ -27,7 +27,7 @@ pub(super) struct Told {
 
 impl HistoryLine {
     #[tactic(auto, using(crate::proofs::HistoryLines::no_words, crate::proofs::HistoryLines::of_none, litmus_text::proofs::FormLemmas::no_words))]
-    /// The line that these words write: `init WORD VALUE`, or `core CORE` and an access with its reply and its times.
+    /// Parses a line: `init WORD VALUE`, or `core CORE` and an access with its reply and its times.
     pub fn parse(words: &[&[u8]]) -> Result<Self, LineFault>
         ensures { ReadsAsLine (map (λ w. w.now) words.now) result }
     {
@@ -67,7 +67,7 @@ fn parse_core(words: &[&[u8]]) -> Result<HistoryLine, LineFault>
     }
 }
 
-// The access that these words tell of.
+// Parses the words of an access.
 #[tactic(auto, unfolding(crate::specs::HistoryLine::IsAccessBy))]
 fn parse_access(core: &[u8], told: &[&[u8]], interval: Interval) -> Result<HistoryLine, LineFault>
     ensures line { IfOk result

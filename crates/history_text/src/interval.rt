@@ -1,4 +1,4 @@
-//! When an access began and ended, which the last word of its line may say.
+//! When an access began and ended, which the last word of its line may give.
 ghost use Rattle.std.specs.Prelude.{◌≡◌, ◌≢◌, ◌+◌, ◌<◌, ◌++◌, ◌∷◌, [], ℕ, List, IfErr, IfNone, IfOk, IfSome, drop, length};
 ghost use Rattle.std.specs.Prelude.{map, slice_index};
 ghost use Rattle.std.specs.List.{position};
@@ -23,7 +23,7 @@ impl Interval {
         end: u64::MAX,
     };
 
-    /// A text BEGIN..END.
+    /// Parses a text BEGIN..END.
     pub(super) fn parse(text: &[u8]) -> Result<Self, LineFault>
         ensures written { IfOk result (λ it. IsInterval text.now it.begin it.end) }
         ensures only { IfOk result (λ it. (begin end : ℕ) → IsInterval text.now begin end
@@ -37,7 +37,7 @@ impl Interval {
     }
 }
 
-// A text with its first dot at this place.
+// Parses a text with its first dot at this place.
 fn parse_around(text: &[u8], at: usize) -> Result<Interval, LineFault>
     requires { position is_dot text.now ≡ Some at }
     ensures written { IfOk result (λ it. IsInterval text.now it.begin it.end) }
@@ -53,7 +53,7 @@ fn parse_around(text: &[u8], at: usize) -> Result<Interval, LineFault>
     Ok(Interval { begin, end })
 }
 
-// What follows the dot at this place and another.
+// Returns what follows the dot at this place and another.
 fn behind_dots(text: &[u8], at: usize) -> Option<&[u8]>
     requires { at < length text.now }
     ensures some { IfSome result
@@ -66,14 +66,14 @@ fn behind_dots(text: &[u8], at: usize) -> Option<&[u8]>
     }
 }
 
-// Where the first dot stands.
+// Returns the place of the first dot.
 fn dot_at(text: &[u8]) -> Option<usize>
     ensures { result ≡ position is_dot text.now }
 {
     text.iter().position(|byte| *byte == b'.')
 }
 
-/// The words before the last, and what that one says after its `@`, where it begins so.
+/// Returns the words before the last, and the text after that one's `@`, if it begins with one.
 pub(super) fn parted<'a>(words: &'a [&'a [u8]]) -> Option<(&'a [&'a [u8]], &'a [u8])>
     ensures some { IfSome result
         (λ p. map (λ w. w.now) words.now ≡ map (λ w. w.now) p.0.now ++ (64 ∷ p.1.now) ∷ []) }
@@ -99,7 +99,7 @@ fn behind_mark(word: &[u8]) -> Option<&[u8]>
     }
 }
 
-/// The number that a word has to spell.
+/// Parses a word that has to be a number.
 pub(super) fn number_of(word: &[u8]) -> Result<u64, LineFault>
     ensures ok { OkIff result (IsNumber word.now) (digits_value 10 word.now) }
     ensures err { IfErr result (λ fault. fault ≡ LineFault.BadNumber) }

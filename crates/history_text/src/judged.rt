@@ -8,15 +8,15 @@ use super::verdict::Verdict;
 use litmus_text::TextFault;
 use std::alloc::Global;
 
-/// The histories of which a text tells, and what they come to.
+/// The histories in a text, and the verdict on them.
 #[derive(Debug, Drop)]
 pub struct Judged {
     pub histories: Histories,
     pub verdict: Verdict,
 }
 
-/// Reads a text, and judges the histories of which it tells: each word's by itself, or each line's. At most `limit` steps
-/// are taken to try orders of one.
+/// Reads a text, and judges the histories in it: each word's by itself, or each line's. Takes at most `limit` steps to
+/// try orders of one.
 #[tactic(auto, unfolding(crate::specs::Judged::IsFaultOf))]
 pub fn judge_text(
     alloc: Global,

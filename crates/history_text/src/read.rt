@@ -1,4 +1,4 @@
-//! Reads the histories of which a text tells.
+//! Reads the histories in a text.
 ghost use Rattle.std.specs.Prelude.{◌≡◌, ◌↔◌, List, IfErr, IfOk, IsTrue, OnOk, false, map, true};
 ghost use Rattle.std.specs.Str.Lines.{lines};
 ghost use Rattle.litmus_text.specs.Form.{Writes};
@@ -19,9 +19,8 @@ use litmus_text::{LineFault, Statement, Statements, TextFault};
 use std::alloc::{AllocError, Global};
 use trace_check::{TraceLine, Version, check_trace};
 
-/// Reads the histories of which a text tells: a history, or a trace, whose entries may stand in any order that is each
-/// core's own on each word. What SEQ, TAG and SINCE say means nothing here. Want of memory and a faulty line are the
-/// only faults.
+/// Reads the histories in a text: a history, or a trace, whose entries may be in any order that is each core's own on
+/// each word. SEQ, TAG and SINCE are ignored. Running out of memory and a faulty line are the only faults.
 pub fn read_histories(alloc: Global, input: &[u8], extent: Extent) -> Result<Histories, TextFault>
     ensures told { IfOk result (AreHistoriesOf input.now) }
     ensures extent { IfOk result (λ it. it.extent ≡ extent) }
@@ -90,7 +89,7 @@ impl Histories {
         }
     }
 
-    // The line that the words write, where it may stand there.
+    // Parses the words of a line that may be here.
     fn next_line(&self, words: &[&[u8]]) -> Result<HistoryLine, LineFault>
         ensures written { IfOk result (IsLineOf (map (λ w. w.now) words.now)) }
         ensures fresh { IfOk result (λ line. (told : List HistoryLine) → AreTold self.now told → IsFresh told line) }
@@ -169,7 +168,7 @@ fn read_entries(
     Ok(histories)
 }
 
-// What a line of a trace tells.
+// Converts a line of a trace.
 fn told_by(line: TraceLine) -> HistoryLine
     ensures { result ≡ line_of line }
 {

@@ -1,4 +1,4 @@
-//! What the histories of all words or lines come to.
+//! The verdict on the histories of all words or lines.
 ghost use Rattle.std.specs.Prelude.{◌≡◌, ◌<◌, IfOk, length};
 ghost use Rattle.slice_log.specs.Log.{initially};
 ghost use Rattle.history_judge.specs.Judged.{IsJudged};
@@ -9,7 +9,7 @@ use super::histories::Histories;
 use history_judge::{Contradiction, Judgement, judge};
 use std::alloc::AllocError;
 
-/// What the histories of all words or lines come to.
+/// The verdict on the histories of all words or lines.
 #[derive(Debug, Drop)]
 pub enum Verdict {
     /// The accesses of each may have been performed in this order, which names them by their places among the word's or
@@ -22,7 +22,7 @@ pub enum Verdict {
 }
 
 impl Histories {
-    /// Judges the history of each word or line. At most `limit` steps are taken to try orders of one.
+    /// Judges the history of each word or line. Takes at most `limit` steps to try orders of one.
     pub fn judge(&self, limit: usize) -> Result<Verdict, AllocError>
         ensures { IfOk result (IsVerdictOn (inits_at self.now) (accesses_at self.now)) }
     {

@@ -21,8 +21,8 @@ use Rattle.litmus_test.specs.Form.{text_of_gave_up, text_of_outcomes, text_of_st
 use Rattle.litmus_test.specs.declared.outcomes.form.OutcomeForm.{OutcomeForm}
 use Rattle.slice_core_spec.specs.View.{IsQuiet}
 
--- the values are the outcome of the walk that the seed draws on a new machine of the test, with at most `most` moves, in
--- which each thread has done all its steps, and after which all slices are quiet
+-- the values are the outcome of the walk that the seed draws on a new machine of the test, with at most `most` moves,
+-- in which each thread has done all its steps, and after which all slices are quiet
 pub record IsRound (test : LitmusTest) (bound : Bound) (seed most : ℕ) (values : List ℕ) : Type 0 where
   pub walk : WalkView
   pub walked : IsWalkOf test bound walk

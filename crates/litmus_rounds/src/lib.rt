@@ -8,10 +8,10 @@
 //!   one round after another, for any number of jobs.
 //! - src/run.rt: all rounds, and what is printed of them.
 //! - src/part.rt: a part of a walk, the table of consecutive rounds and how they ended, so that a walk can be split
-//!   among machines. src/part_form.rt writes one as a text (`text_of_part` of specs/PartForm.antt): a first line with the
-//!   format, the version of the program, the sum of the test's text ([`sum_of`]), the limit of moves, the first seed and
-//!   the number of rounds; then a line for each outcome; and a last line, so that a part that is cut off is recognized.
-//!   Texts can follow one another. src/part_read.rt reads them; what it reads is spelled so, byte for byte.
+//!   among machines. src/part_form.rt writes one as a text (`text_of_part` of specs/PartForm.antt): a first line with
+//!   the format, the version of the program, the sum of the test's text ([`sum_of`]), the limit of moves, the first
+//!   seed and the number of rounds; then a line for each outcome; and a last line, so that a part that is cut off is
+//!   recognized. Texts can follow one another. src/part_read.rt reads them; what it reads is spelled so, byte for byte.
 //! - src/parts.rt: a walk printed in parts (specs/Parts.antt), and src/merge.rt: parts joined (specs/Merge.antt). If no
 //!   round is missing they equal one walk of all rounds.
 #![tactic(auto)]

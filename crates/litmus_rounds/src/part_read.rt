@@ -1,4 +1,4 @@
-//! Reads the text of parts. Lines are read for what they say; their spelling is then checked by writing the parts again.
+//! Reads the text of parts. Lines are read for what they say; the spelling is then checked by writing the parts again.
 ghost use Rattle.std.specs.Prelude.{◌≡◌, ◌++◌, [], List, ℕ, IfOk, IfSome, OnOk, false};
 ghost use Rattle.litmus_rounds.specs.PartForm.{text_of_parts};
 

@@ -19,9 +19,9 @@ use std::thread::Threads;
 /// The number of rounds of a part: at most about a minute of work, which is lost if a walk is cut off.
 pub const PART_ROUNDS: u64 = 100_000;
 
-/// Walks through a litmus test `rounds` times, and prints the outcomes in parts, each of [`PART_ROUNDS`] rounds or those
-/// that remain, as soon as its rounds are over. The part with a round that is stuck or is given up is the last. Parts
-/// that are already known, in their order from the first on, are printed and not walked.
+/// Walks through a litmus test `rounds` times, and prints the outcomes in parts, each of [`PART_ROUNDS`] rounds or
+/// those that remain, as soon as its rounds are over. The part with a round that is stuck or is given up is the last.
+/// Parts that are already known, in their order from the first on, are printed and not walked.
 pub fn print_parts<R: Threads + Sync, W: Write, P: Progress>(
     alloc: Global,
     rt: &R,

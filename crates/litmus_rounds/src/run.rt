@@ -28,10 +28,10 @@ pub fn processors<R: Threads>(rt: &R) -> usize
     }
 }
 
-/// Walks through a litmus test `rounds` times, in `jobs` parallel jobs, and prints how often each outcome came, with the
-/// seed of the first round that had it: round 0 has the given seed, and each the next. Returns the exit status, which is
-/// 1 if a forbidden outcome came, or if a round is stuck or is given up after `most` moves; in that case only this round
-/// is printed. What is printed is the same for any number of jobs.
+/// Walks through a litmus test `rounds` times, in `jobs` parallel jobs, and prints how often each outcome came, with
+/// the seed of the first round that had it: round 0 has the given seed, and each the next. Returns the exit status,
+/// which is 1 if a forbidden outcome came, or if a round is stuck or is given up after `most` moves; then only this
+/// round is reported. What is printed is the same for any number of jobs.
 pub fn run_walk<R: Threads + Sync, W: Write, P: Progress>(
     alloc: Global,
     rt: &R,

@@ -135,7 +135,7 @@ module _ (front back : List RowView) (row : RowView) where
       more false true c is = refl
       more false false c is = is
 
-  -- another row of its outcome is as good
+  -- another row of its outcome can replace it
   pub has_again : (again : RowView) → again.values ≡ row.values → (outcome : List ℕ)
       → Has (front ++ row ∷ back) outcome → Has (front ++ again ∷ back) outcome
   has_again again same outcome some = test_as_any outcome (front ++ again ∷ back)
@@ -160,7 +160,7 @@ split_at rows at row within is =
     sym (take-append-drop at rows) ∙ ap (λ rest. take at rows ++ rest) (drop-cons rows at row within)
     ∙ ap (λ (here : RowView). take at rows ++ here ∷ drop (suc at) rows) (sym is)
 
--- where there is a gap for an outcome, no row has it
+-- if there is a gap for an outcome, no row has it
 pub gap_lacks : (values : List ℕ) (rows : List RowView) (at : ℕ) → IsGapFor rows values at
     → Has rows values → ⊥
 gap_lacks values rows at gap (k, x, within, is, has) =
@@ -174,9 +174,9 @@ gap_lacks values rows at gap (k, x, within, is, has) =
     let same = ap (pointwise nat_eq values) (ap (λ (row : RowView). row.values) is ∙ has) ∙ alike_itself values in
     true≢false (sym same ∙ differs)
 
--- ---- what counting makes of the rows
+-- ---- how counting changes the rows
 
--- the rows still ascend, and count so many rounds more
+-- the rows still ascend, and count `rounds` more rounds
 pub record Grows (rounds : ℕ) (old new : List RowView) : Type 0 where
   pub ascending : AllPairs IsBelow old → AllPairs IsBelow new
   pub total : sum_by (λ (row : RowView). row.rounds) new ≡ sum_by (λ (row : RowView). row.rounds) old + rounds

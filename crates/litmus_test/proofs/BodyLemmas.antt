@@ -32,7 +32,7 @@ use Rattle.litmus_test.specs.Text.{MayStep, said_step, Said, has_core, has_name,
 use Rattle.litmus_test.specs.Text.{reply_of, said_by, with_step}
 use Rattle.litmus_test.proofs.SoundLemmas.{of_both, sound_name, sound_outcome, sound_step, sound_thread}
 
--- a test of what is seen of each element
+-- a test of the image of each element
 any-map : {X Y : Type 0} (f : X → Y) (p : Y → Bool) (xs : List X)
     → list_any p (map f xs) ≡ list_any (λ x. p (f x)) xs
 any-map f p [] = refl
@@ -46,7 +46,7 @@ pub has_name-replies : (name : List ℕ) (ns : List NamedReply)
     → has_name name (map reply_of ns) ≡ list_any (λ (n : NamedReply). bytes_eq n.name.now name) ns
 has_name-replies name ns = any-map reply_of (λ (reply : Reply). bytes_eq reply.name name) ns
 
--- where no element passes, each doesn't
+-- if no element passes, each fails
 pub none_passes : {X : Type 0} (p : X → Bool) (xs : List X) → list_any p xs ≡ false → All (λ x. p x ≡ false) xs
 none_passes p [] h = All-nil (λ x. p x ≡ false)
 none_passes p (x ∷ xs) h =
@@ -64,7 +64,7 @@ last_steps-programs (t ∷ []) (suc i) d h = absurd (omega arith)
 last_steps-programs (t ∷ u ∷ ts) zero d h = absurd (omega arith)
 last_steps-programs (t ∷ u ∷ ts) (suc i) d h = last_steps-programs (u ∷ ts) i d (omega arith)
 
--- the last thread is replaced by one with a step more
+-- the last thread is replaced by one with one more step
 pub with_step-programs : (action : Action) (ts : List Thread) (i : ℕ) (now d : Thread) → length ts ≡ i + 1
     → now.core ≡ (get_or ts i d).core → now.steps.items ≡ (get_or ts i d).steps.items ++ action ∷ []
     → map program_of (set ts i now) ≡ with_step action (map program_of ts)
@@ -98,7 +98,7 @@ last-with_step action (q ∷ []) (suc i) p h at = absurd (omega arith)
 last-with_step action (q ∷ r ∷ ps) zero p h at = absurd (omega arith)
 last-with_step action (q ∷ r ∷ ps) (suc i) p h at = last-with_step action (r ∷ ps) i p (omega arith) at
 
--- a step may come next where there is a thread
+-- a step may come next only if there is a thread
 pub some_thread : (test : LitmusTest) → MayStep (said_by test) → 1 ≤ vec_len test.threads
 unfolding said_by
 some_thread test may =
@@ -123,7 +123,7 @@ few_more : (b : Bool) (n : ℕ) (action : Action) → n < 4096 → n + length (c
 few_more true n action h = omega arith
 few_more false n action h = omega arith
 
--- a test stays sound where its last thread takes a step, also where there is no memory for it
+-- a test stays sound if its last thread takes a step, even if memory runs out
 pub sound_last : (test : LitmusTest) (action : Action) (i : ℕ) (d t : Thread) (steps : Vec Action Global) (b : Bool)
     → MayStep (said_by test) → IsStepOf test.config action → vec_len test.threads ≡ i + 1
     → t ≡ get_or test.threads.items i d
@@ -168,7 +168,7 @@ some_known ns [] known some = absurd (omega arith)
 some_known [] (claim ∷ claims) known some = cc
 some_known (n ∷ ns) (claim ∷ claims) known some = omega arith
 
--- the pair that a claim comes to
+-- the pair of a claim
 abbrev pub pair_in : List NamedReply → Claim → Pair
 pair_in ns claim = record {
   name = unwrap_or (position (λ (n : NamedReply). bytes_eq n.name.now claim.name.now) ns) 0;
@@ -255,7 +255,7 @@ new_later test i step last is = λ k n within same.
     let long = ap (λ (x : Thread). length x.steps.items) at in
     omega (arith, below, t.steps.ok.0, count, long)
 
--- a name that none has is another than each
+-- a name that no reply has differs from each
 new_name : (ns : List NamedReply) (name : List ℕ) → has_name name (map reply_of ns) ≡ false
     → All (λ (a : NamedReply). a.name.now ≢ name) ns
 new_name ns name none = λ k d within same.
@@ -265,7 +265,7 @@ new_name ns name none = λ k d within same.
     let equal : bytes_eq a.name.now name ≡ true = (bytes_eq-Decides a.name.now name).1 same in
     false≢true (sym other ∙ equal)
 
--- a test stays sound where the step that was just taken is given a name
+-- a test stays sound if the step that was just taken is given a name
 pub sound_named : (was now : LitmusTest) (action : Action) (n : NamedReply) (names : List NamedReply) (b : Bool)
     → said_by now ≡ said_step (said_by was) action → now.names ≡ was.names → MayName (said_by was) n.name.now
     → IsTrue (reads_value action) → IsTrue (is_name n.name.now) → vec_len was.threads ≡ n.thread + 1
@@ -288,7 +288,7 @@ sound_named was now action n names b stepped same may reads named last step push
     (sound_name now.config now.rounds now.movers now.threads.items now.names.items now.forbidden.items n few reply fresh
     later now.sound) now.sound)
 
--- a core that no thread has is another than each
+-- a core that no thread has differs from each
 pub new_core : (ts : List Thread) (t : Thread) → has_core t.core.0 (map program_of ts) ≡ false
     → All (λ (u : Thread). u.core ≢ t.core) ts
 new_core ts t none = λ k d within same.
@@ -298,7 +298,7 @@ new_core ts t none = λ k d within same.
     let equal : (u.core.0 == t.core.0) ≡ true = eq-eqb u.core.0 t.core.0 (ap (λ (c : CoreId). c.0) same) in
     false≢true (sym other ∙ equal)
 
--- a test stays sound where a thread begins, also where there is no memory for it
+-- a test stays sound if a thread begins, even if memory runs out
 pub sound_begun : (test : LitmusTest) (core : ℕ) (steps : Vec Action Global) (ts : List Thread) (b : Bool)
     → MayBegin (said_by test) core → steps.items ≡ []
     → (let t : Thread = record { core = record { 0 = core }; steps = steps } in
@@ -319,7 +319,7 @@ sound_begun test core steps ts b may none pushed =
     (sound_thread test.config test.rounds test.movers test.threads.items test.names.items test.forbidden.items t is
     (new_core test.threads.items t may.first) test.sound) test.sound)
 
--- a test stays sound where an outcome of its names is forbidden
+-- a test stays sound if an outcome of its names is forbidden
 pub sound_forbidden : (test : LitmusTest) (f : Forbidden) (fs : List Forbidden) (b : Bool) → 1 ≤ vec_len f.pairs
     → vec_len f.pairs ≤ 16 → All (λ (p : Pair). p.name < vec_len test.names) f.pairs.items
     → fs ≡ cond b (test.forbidden.items ++ f ∷ []) test.forbidden.items

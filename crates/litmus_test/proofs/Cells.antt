@@ -23,7 +23,7 @@ module _ {W X : Type 0} (took : W → List ℕ → W → Type 0) (label : X → 
   next_cell xs rest values later x value is has old mid new one more =
       rw (is, has) (writes_in_calls_append took old _ mid _ new one more)
 
-  -- where nothing is left, nothing more is written
+  -- if nothing is left, nothing more is written
   pub last_cell : (xs : List X) (values : List ℕ) → (length xs ≡ 0) ⊎ (length values ≡ 0) → (now : W)
       → WritesInCalls took now (labelled xs values) now
   last_cell [] values end now = writes_in_calls_nil took now

@@ -18,7 +18,7 @@ AreClaims-length [] (claim ∷ claims) h = absurd h
 AreClaims-length (word ∷ words) [] h = absurd h
 AreClaims-length (word ∷ words) (claim ∷ claims) h = ap suc (AreClaims-length words claims h.1)
 
--- all words are so many claims and those that the words left are
+-- all words are the claims `done`, and then those of the words `left`
 pub record LeaveClaims (words left : List (List ℕ)) (done : List (List ℕ × ℕ)) : Type 0 where
   pub whole : (more : List (List ℕ × ℕ)) → AreClaims left more → AreClaims words (done ++ more)
   pub only : (all : List (List ℕ × ℕ)) → AreClaims words all
@@ -74,7 +74,7 @@ leave_less words left word done name value is one h = record {
       );
 }
 
--- a word that is no claim spoils all
+-- if a word is no claim, the words are no claims
 pub leave_nothing : (words left : List (List ℕ)) (word : List ℕ) (done all : List (List ℕ × ℕ))
     → ((n : List ℕ) (v : ℕ) → IsClaim word n v → ⊥)
     → LeaveClaims words (word ∷ left) done → AreClaims words all → ⊥
@@ -83,7 +83,7 @@ leave_nothing words left word done all none h whole =
     let q = split_claim word left p.0 p.1.1 in
     none q.0.0 q.0.1 q.1.1.1
 
--- the words that are left behind the first so many
+-- the words after the first i
 abbrev texts : List (Bor (List ℕ)) → List (List ℕ)
 texts words = map (λ w. w.now) words
 
@@ -95,7 +95,7 @@ behind words i d within =
     get_or-map (λ (w : Bor (List ℕ)). w.now) words i d d.now within in
     rw add-one (drop-cons (texts words) i d.now count ∙ ap (λ w. w ∷ drop (suc i) (texts words)) first)
 
--- a word more was read
+-- one more word was read
 pub word_read : (words : List (Bor (List ℕ))) (i : ℕ) (d : Bor (List ℕ)) (done : List Claim) (claim : Claim)
     → i < length words → IsClaim (get_or words i d).now claim.name.now claim.value
     → ((n : List ℕ) (v : ℕ) → IsClaim (get_or words i d).now n v → (n ≡ claim.name.now) × (v ≡ claim.value))
@@ -122,7 +122,7 @@ all_read words i done past h =
     drop_all i (texts words) (omega (arith, length-map words (λ (w : Bor (List ℕ)). w.now))) in
     subst (λ left. LeaveClaims (texts words) left done) none h
 
--- so many claims the words may be
+-- one to 16 words may be claims
 pub claim_count : (words : List (Bor (List ℕ))) (claims : List (List ℕ × ℕ)) → WritesClaims (texts words) claims
     → (1 ≤ length words) × (length words ≤ 16)
 claim_count words claims h =
@@ -141,7 +141,7 @@ claims_read words done h count some few =
       few = omega (arith, long);
     }
 
--- all words have the form of claims where all their texts do
+-- all words have the form of claims if all their texts do
 pub all_forms : (words : List (Bor (List ℕ)))
     → list_all (λ (w : Bor (List ℕ)). has_claim_form w.now) words ≡ list_all has_claim_form (map (λ w. w.now) words)
 all_forms [] = refl

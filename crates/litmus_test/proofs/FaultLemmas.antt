@@ -1,4 +1,4 @@
--- Which fault a text has: from its line at fault, or its configuration.
+-- The fault of a text: that of its invalid line, or of its configuration.
 use Rattle.std.proofs.Common.{◌≡◌, ◌≢◌, ◌⊎◌, arith, length, ℕ, List, [], ◌∷◌, ◌++◌, Option, None, Some, refl, sym, ap, subst, ◌∙◌, inl, inr, append_assoc}
 use Rattle.litmus_text.specs.Form.{IsFormFaultOf, Writes}
 use Rattle.litmus_text.specs.Table.{value_named}
@@ -121,7 +121,7 @@ pub placed_setting : (version : Version) (said : Said) (number : ℕ) (words : L
 placed_setting version said number words s fault written wrong =
     placed_line version said number words (setting s) fault written wrong
 
--- words that are no line, of which those of settings and others are judged each in their way
+-- words that are no line: those of settings and others are checked separately
 pub no_line : (version : Version) (said : Said) (number : ℕ) (words : List (List ℕ)) (told fault : LineFault)
     → ¬ BeginsAsSetting words → ((line : Line) → WritesLine version words line → ⊥)
     → IsLineFault version words fault
@@ -170,7 +170,7 @@ no_setting version said words told fault begins none form astray placed = inr (r
   placed = λ here. subst (IsMalformed version words) (sym (placed here)) (inl (begins, form));
 })
 
--- .. where nothing but settings came
+-- .. if only settings came
 pub no_setting_line : (version : Version) (preamble : Preamble) (number : ℕ) (words : List (List ℕ)) (fault : LineFault)
     → BeginsAsSetting words → ((s : Setting) → WritesSetting words s → ⊥) → IsFormFaultOf parts_of_setting words fault
     → IsNextFault version (said_first preamble) number words (text_faults.Line number fault)
@@ -181,7 +181,7 @@ no_setting_line version preamble number words fault begins none form = (
       (λ astray. absurd (nothing_astray preamble words begins astray)) (λ here. refl),
 )
 
--- a setting after the first thread, or after an outcome where no thread came
+-- a setting after the first thread, or after an outcome if no thread came
 pub late_setting : (version : Version) (said : Said) (words : List (List ℕ)) (s : Setting) → WritesSetting words s
     → said.threads ≢ [] → IsWrong version said words line_faults.LateConfiguration
 unfolding HasFault

@@ -1,4 +1,4 @@
--- The rows of two tables together: what one more row of the second makes of them, and that they are the table of the
+-- The rows of two tables together: how one more row of the second changes them, and that they are the table of the
 -- rounds of both.
 use Rattle.std.proofs.Common.{zero, suc, ◌≡◌, ◌⊎◌, ℕ, ◌+◌, ◌%◌, ◌^◌, ◌<◌, ◌≤◌, List, [], ◌∷◌, ◌++◌, length, get_or, take, drop}
 use Rattle.std.proofs.Common.{Bool, true, false, cond, Some, refl, ap, sym, subst, ◌∙◌, arith, nat_eq, inl, inr}
@@ -190,7 +190,7 @@ module _ (from : ℕ) (one other : List RowView) (more : RowView) where
             (has_middle front back here);
       }
 
-  -- what counting it makes of the rows
+  -- how counting it changes the rows
   pub joined : (old new : List RowView) → CountsAgain here old new ⊎ CountsFirst here old new
       → AreRowsOfBoth from one other old → AreRowsOfBoth from one longer new
   joined old new counts are = elim counts [

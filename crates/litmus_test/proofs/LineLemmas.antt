@@ -1,4 +1,4 @@
--- The words with which lines begin.
+-- The first words of lines.
 use Rattle.std.proofs.Common.{◌≡◌, ◌≢◌, ℕ, [], not, List, ◌∷◌, Some, inl, inr, refl, rules, subst, sym}
 use Rattle.std.specs.Prelude.{codes, IsTrue}
 use Rattle.std.specs.Str.{bytes_eq}

@@ -1,4 +1,4 @@
--- What a litmus test keeps to gives each name a request.
+-- By the invariant of a litmus test each name has a request.
 use Rattle.std.proofs.Common.{zero, suc, ◌≡◌, ℕ, ◌<◌, List, [], ◌∷◌, length, true, IsSome, Some, refl, sym, subst}
 use Rattle.std.proofs.Common.{arith}
 use mathlib.Core.Bool.{true≢false}
@@ -24,7 +24,7 @@ holds_at : {X : Type 0} (P : X → Type 0) (xs : List X) (k : ℕ) (x : X) → s
 holds_at P xs k x is all =
     subst P (get_or_from_slice_get xs k x x is) (All-get_or P xs k x (slice_get_within xs k x is) all)
 
--- a step that is told a value makes a request
+-- a step that receives a value makes a request
 makes_request : (c : Config) (thread : Thread) (step : ℕ) (action : Action) → reads_value action ≡ true
     → IsSome (request_of c thread step action)
 makes_request c thread step (actions.Access word op) reads = refl

@@ -1,4 +1,4 @@
--- How many requests steps make.
+-- The number of requests that steps make.
 use Rattle.std.proofs.Common.{◌≡◌, ℕ, ◌+◌, ◌<◌, ◌≤◌, List, [], ◌∷◌, ◌++◌, length, get_or, take, Bool, true, false, refl}
 use Rattle.std.proofs.Common.{arith, IsTrue, ◌↔◌, ap, ◌∙◌, append_assoc, length-append, length-take}
 use Rattle.std.proofs.lemmas.List.{take_more}
@@ -12,7 +12,7 @@ use Rattle.litmus_test.specs.declared.test.Action.TheVariants as actions
 use Rattle.litmus_test.specs.NamedRequest.{requests_in, IsIn}
 
 module _ (c : Config) (slice : ℕ) where
-  -- how many a step makes: one or none
+  -- the number that a step makes: one or none
   abbrev pub one_if : Bool → ℕ
   one_if true = 1
   one_if false = 0

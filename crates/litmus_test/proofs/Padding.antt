@@ -1,4 +1,4 @@
--- Numbers to the right in 8 places: what the layout `{:>8}` makes of them.
+-- Numbers right-aligned in 8 columns: the layout `{:>8}`.
 use Rattle.std.proofs.Common.{◌≡◌, ℕ, zero, suc, ◌-◌, ◌^◌, List, [], ◌∷◌, ◌++◌, length, replicate, refl, ap, ◌∙◌, arith}
 use Rattle.std.proofs.Common.{append-nil}
 use lib.Utf8.{encode}
@@ -10,7 +10,7 @@ repeat-space : (n : ℕ) → repeat {A = ℕ} n (32 ∷ []) ≡ replicate n 32
 repeat-space zero = refl
 repeat-space (suc n) = ap (λ rest. 32 ∷ rest) (repeat-space n)
 
--- a number's padding stands before it, and none after it
+-- a number's padding comes before it, and none after it
 padded_front : (pad : ℕ) (text : List ℕ) → let space : List ℕ = 32 ∷ [] in
     (repeat pad space ++ [] ++ [] ++ []) ++ (text ++ repeat (pad - pad) space) ≡ replicate pad 32 ++ text
 padded_front pad text =

@@ -90,7 +90,7 @@ reading_line version start said all left s line written only may reading = recor
       ∙ ap (λ (l : Line). said_line said l) (only last.0 last.1.0));
 }
 
--- where the next statement writes no line that may come next, all say nothing
+-- if the next statement writes no line that may come next, all say nothing
 pub reading_stops : (version : Version) (start said : Said) (all left : List (ℕ × List (List ℕ)))
     (s : ℕ × List (List ℕ))
     → IsReading version start said all (s ∷ left) → IsNoNextLine version said s.1
@@ -99,7 +99,7 @@ unfolding Says
 reading_stops version start said all left s reading none whole h =
     let next = reading_only version start said all (s ∷ left) whole reading h in none next.0 next.1.0 next.1.1
 
--- .. and the statement is the first at fault, since those before it say something
+-- .. and the statement is the first invalid one, since those before it say something
 first_fault : (version : Version) (start said : Said) (all left : List (ℕ × List (List ℕ))) (number : ℕ)
     (words : List (List ℕ))
     → IsReading version start said all ((number, words) ∷ left) → IsNoNextLine version said words
@@ -117,7 +117,7 @@ first_fault version start said all left number words reading none =
       refused = λ h. reading_stops version start said (reading.done ++ s ∷ []) [] s read none h.0 h.1;
     }
 
--- where a fault names the line of a refused statement, it names the first at fault
+-- if a fault names the line of a refused statement, it names the first invalid one
 pub at_first_fault : (version : Version) (start said : Said) (all left : List (ℕ × List (List ℕ))) (number : ℕ)
     (words : List (List ℕ)) (fault : TextFault)
     → IsReading version start said all ((number, words) ∷ left) → IsNoMemoryOr (IsNoNextLine version said words) fault
@@ -139,14 +139,14 @@ reading_all version start said all reading =
       only = λ other h. sym (reading_only version start said all [] other reading h);
     }
 
--- a fault that is no want of memory comes also where less is refused
+-- why a text is refused may be replaced by something weaker
 pub IsNoMemoryOr-weaker : (P Q : Type 0) (fault : TextFault) → (P → Q) → IsNoMemoryOr P fault → IsNoMemoryOr Q fault
 IsNoMemoryOr-weaker P Q text_faults.NoMemory f h = tt
 IsNoMemoryOr-weaker P Q (text_faults.Line number fault) f h = f h
 IsNoMemoryOr-weaker P Q (text_faults.Config error) f h = f h
 IsNoMemoryOr-weaker P Q text_faults.CannotWrite f h = absurd h
 
--- what holds where two facts do
+-- what holds if two facts do
 pub on_ok_two : {T E : Type 0} (r : Result T E) (P Q R : Type 0) → (P → Q → R) → OnOk r P → OnOk r Q → OnOk r R
 on_ok_two (Ok x) P Q R f h k = f h k
 on_ok_two (Err e) P Q R f h k = tt
@@ -233,7 +233,7 @@ no_late_setting version said (word ∷ words) begins begun line written may =
     let early = early_setting said is.0 sets in
     omega (arith, begun, ap length early.no_thread, ap length early.no_outcome)
 
--- a line that begins as no setting, where the configuration is at fault, comes next nowhere before the threads
+-- if the configuration is invalid, a line that begins as no setting can't come next before the threads
 pub no_unchecked_line : (version : Version) (said : Said) (words : List (List ℕ)) → ¬ BeginsAsSetting words
     → said.threads ≡ [] → ¬ IsChecked said.settings.config → IsNoNextLine version said words
 unfolding MayFollow
@@ -268,7 +268,7 @@ pub nothing_behind : (version : Version) (start said : Said) (all left : List (�
 nothing_behind version start said all left reading nothing whole h checked =
     nothing whole (reading_only version start said all left whole reading h) checked
 
--- .. and the first of them at fault is the first of all
+-- .. and the first invalid one of them is the first of all
 pub fault_behind : (version : Version) (start said : Said) (all left : List (ℕ × List (List ℕ))) (number : ℕ)
     → IsReading version start said all left → IsFirstFault (AreLines version said) left number
     → IsFirstFault (AreLines version start) all number
@@ -310,7 +310,7 @@ pub says_nothing : (version : Version) (start said : Said) (all left : List (ℕ
 says_nothing version start said all left s reading none whole h checked =
     reading_stops version start said all left s reading none whole h
 
--- a configuration at fault, before the first line that is no setting and at the end
+-- an invalid configuration, before the first line that is no setting and at the end
 pub unchecked_first : (preamble : Preamble) (version : Version) (words : List (List ℕ)) → ¬ BeginsAsSetting words
     → ¬ IsChecked preamble.settings.config → IsNoNextLine version (said_first preamble) words
 unfolding said_first
@@ -360,7 +360,7 @@ other_test text number first rest version whole statements only test =
     subst (λ v. Says v said_nothing rest whole) one
     (subst (λ ss. Says test.version said_nothing ss whole) same_rest test.says)
 
--- a line at fault after the first is the text's
+-- an invalid line after the first is the text's
 pub at_fault : (statements rest : List (ℕ × List (List ℕ))) (number : ℕ) (first : List (List ℕ)) (version : Version)
     (fault : TextFault) → statements ≡ (number, first) ∷ rest → Writes first (parts_of_first version)
     → IsAtLine (IsFirstFault (AreLines version said_nothing) rest) fault → IsAtLine (IsFaultAt statements) fault
@@ -377,7 +377,7 @@ at_no_line holds (text_faults.Line n fault) at = absurd at
 at_no_line holds (text_faults.Config error) at = tt
 at_no_line holds text_faults.CannotWrite at = tt
 
--- where the line that the words write may not come next, the words write none that may
+-- if the line that the words write may not come next, the words write none that may
 pub no_next : (version : Version) (said : Said) (words : List (List ℕ)) (line : Line)
     → ((other : Line) → WritesLine version words other → other ≡ line) → (fault : TextFault)
     → IsNoMemoryOr (¬ MayFollow said line) fault → IsNoMemoryOr (IsNoNextLine version said words) fault

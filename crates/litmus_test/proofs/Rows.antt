@@ -42,7 +42,7 @@ module _ (rows : List RowView) (ascending : AllPairs IsBelow rows) (values : Lis
       ap is_lt (nat_list_cmp_total.antisymm (get_or rows (k + 1) d).values (get_or rows k d).values
       ∙ ap ordering_reverse (ascending k (k + 1) d (omega arith) (omega arith)))
 
-  -- the comparisons with the outcome rise along the rows, as a binary search asks
+  -- the comparisons with the outcome rise along the rows, as a binary search requires
   comparisons_rise : IsNonDecreasingBy (λ row. ordering_index (against values row)) rows
   comparisons_rise = searchable_from_sorted nat_list_cmp_total (λ (row : RowView). row.values) rows values in_order
 

@@ -68,7 +68,7 @@ only_config name words no_rounds no_movers P h (settings.Config line) form = h l
 only_config name words no_rounds no_movers P h (settings.Rounds n) form = absurd (no_rounds form.0)
 only_config name words no_rounds no_movers P h (settings.Movers n) form = absurd (no_movers form.0)
 
--- words of neither name are judged as a line that configures
+-- words of neither name are checked as a line that configures
 pub config_wrong : (name : List ℕ) (words : List (List ℕ)) (fault : LineFault) → name ≢ codes "rounds"
     → name ≢ codes "movers" → IsFormFaultOf parts_of_config_line (name ∷ words) fault
     → IsFormFaultOf parts_of_setting (name ∷ words) fault

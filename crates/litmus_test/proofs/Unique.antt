@@ -105,7 +105,7 @@ module _ (rounds : List (List ℕ)) where
     | inr later ↦ later
   ]
 
-  -- a row is all that its outcome says
+  -- a row is determined by its outcome
   same_row : (x y : RowView) → IsRowOf rounds x → IsRowOf rounds y → x.values ≡ y.values → x ≡ y
   same_row x y right other same =
       let counts : x.rounds ≡ y.rounds =
@@ -127,7 +127,7 @@ module _ (rounds : List (List ℕ)) where
       let same : y.values ≡ x.values = some.4 ∙ get_or_from_slice_get rounds x.first x.values x.values right.had in
       subst (Contains ys) (same_row y x (All-contains (IsRowOf rounds) ys y others.each_row theirs) right same) theirs
 
-  -- rounds have one table alone
+  -- rounds have exactly one table
   pub one_table_lem : (a b : TableView) → IsTableOf rounds a → IsTableOf rounds b → a ≡ b
   one_table_lem a b is other =
       let rows = same_elements a.rows b.rows is.rows.ascending other.rows.ascending

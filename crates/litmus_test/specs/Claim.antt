@@ -11,7 +11,7 @@ use Rattle.litmus_test.specs.Name.{is_name}
 abbrev pub is_equals_sign : ℕ → Bool
 is_equals_sign b = b == 61
 
--- the word is NAME=VALUE, parted by its first `=`
+-- the word is NAME=VALUE, split at its first `=`
 pub record IsClaim (word name : List ℕ) (value : ℕ) : Type 0 where
   pub at : ℕ
   pub parted : position is_equals_sign word ≡ Some at

@@ -1,4 +1,4 @@
--- How rounds end, where others are before them.
+-- How rounds end, if others come before them.
 use Rattle.std.specs.Prelude.{ℕ, ◌+◌}
 use Rattle.litmus_test.specs.declared.outcomes.ended.Ended.{Ended}
 use Rattle.litmus_test.specs.declared.outcomes.ended.Ended.TheVariants as ended_kinds
@@ -9,7 +9,7 @@ round_of ended_kinds.Done = 0
 round_of (ended_kinds.Stuck round) = round
 round_of (ended_kinds.GaveUp round) = round
 
--- the same after so many other rounds
+-- the same after `rounds` other rounds
 abbrev pub ended_behind : ℕ → Ended → Ended
 ended_behind rounds ended_kinds.Done = ended_kinds.Done
 ended_behind rounds (ended_kinds.Stuck round) = ended_kinds.Stuck (rounds + round)

@@ -1,4 +1,4 @@
--- What is wrong with a text that is no litmus test: which line is at fault, and how.
+-- What is wrong with a text that is no litmus test: which line is invalid, and how.
 use Rattle.std.specs.Prelude.{◌≡◌, ◌≢◌, ◌⊎◌, ℕ, ◌<◌, ◌≤◌, ◌/◌, Bool, true, false, List, [], ◌∷◌, ◌++◌, Contains, IsTrue}
 use Rattle.std.specs.Prelude.{Option, None, Some, get_or, length, take}
 use Rattle.std.specs.List.{list_all, position}
@@ -28,8 +28,8 @@ use Rattle.litmus_test.specs.Text.{said_nothing}
 
 -- ---- a line that is well formed, in its place
 
--- Settings come first, then threads with their steps, then outcomes: a line that begins with this word, or as a setting,
--- stands in the part of others.
+-- Settings come first, then threads with their steps, then outcomes: a line that begins with this word, or as a
+-- setting, is in the part of others.
 abbrev pub IsAstray : Said → Option Keyword → Type 0
 IsAstray said None = (said.threads ≡ []) × (said.forbidden ≢ [])
 IsAstray said (Some keywords.Thread) = said.forbidden ≢ []
@@ -56,7 +56,7 @@ HasThreadFault said core fault =
     ⊎ ((said.forbidden ≡ []) × ((said.settings.config.cores ≤ core) ⊎ (has_core core said.threads ≡ true))
     × (fault ≡ line_faults.OutOfRange))
 
--- .. with a step: its part, or else that its thread has as many as it may have
+-- .. with a step: its part, or else that its thread has the maximum number
 abbrev pub HasStepFault : Said → LineFault → Type 0
 HasStepFault said fault =
     (IsAstray said (Some keywords.Settle) × (fault ≡ line_faults.NotACommand))
@@ -107,7 +107,7 @@ HasFault said (forbid claims) fault = HasForbidFault said claims fault
 
 -- ---- a line that isn't
 
--- whether a word is NAME=VALUE but for its VALUE, which may be any word: it is parted by its first `=`
+-- whether a word is NAME=VALUE, with any word as VALUE: it is split at its first `=`
 abbrev pub names_reply : Option ℕ → List ℕ → Bool
 names_reply None word = false
 names_reply (Some at) word = is_name (take at word)
@@ -137,7 +137,7 @@ pub record IsFormFault (Form : Type 0) (fault : LineFault) : Type 0 where
   pub as_form : Form → fault ≡ line_faults.BadNumber
   pub other : ¬ Form → fault ≡ line_faults.NotACommand
 
--- the keyword with which words begin
+-- the keyword at the beginning of words
 abbrev pub keyword_of : List (List ℕ) → Option Keyword
 keyword_of [] = None
 keyword_of (name ∷ words) = value_named keywords_by_name name
@@ -152,7 +152,7 @@ IsLineFault version [] fault = fault ≡ line_faults.NotACommand
 IsLineFault version (name ∷ words) fault =
     IsKeywordFault version (value_named keywords_by_name name) words fault
 
--- .. or by how settings are written, where they begin as one
+-- .. or by how settings are written, if they begin as one
 abbrev pub IsMalformed : Version → List (List ℕ) → LineFault → Type 0
 IsMalformed version words fault =
     (BeginsAsSetting words × IsFormFaultOf parts_of_setting words fault)
@@ -171,8 +171,8 @@ abbrev pub IsWrong : Version → Said → List (List ℕ) → LineFault → Type
 IsWrong version said words fault =
     ((line : Line) × WritesLine version words line × HasFault said line fault) ⊎ IsNoLine version said words fault
 
--- The line of this number is the first at fault: those before it say so much. It comes to be judged only where it is a
--- setting, or the configuration is allowed.
+-- The line of this number is the first invalid one: those before it say `said`. It is checked only if it is a setting,
+-- or the configuration is allowed.
 pub record IsFaultyLine (version : Version) (start : Said) (statements : List (ℕ × List (List ℕ))) (number : ℕ)
     (fault : LineFault) : Type 0 where
   pub before : List (ℕ × List (List ℕ))
@@ -200,7 +200,7 @@ pub record IsConfigFault (version : Version) (start : Said) (statements : List (
   pub others : BeginOtherwise behind
   pub is_fault : first_fault said.settings.config ≡ Some error
 
--- why the statements are read no further, where so much was said before; there may also be no memory
+-- why reading the statements stops, after what was said before; memory may also run out
 abbrev pub IsFaultAmong : Version → Said → List (ℕ × List (List ℕ)) → TextFault → Type 0
 IsFaultAmong version start statements (text_faults.Line number fault) =
     IsFaultyLine version start statements number fault
@@ -208,8 +208,8 @@ IsFaultAmong version start statements (text_faults.Config error) = IsConfigFault
 IsFaultAmong version start statements text_faults.NoMemory = Unit {0}
 IsFaultAmong version start statements text_faults.CannotWrite = ⊥
 
--- Why a text, by its statements, is no litmus test: it says nothing or begins as none, or else why the others are read no
--- further. There may also be no memory.
+-- Why a text, by its statements, is no litmus test: it is empty or begins as none, or else why reading the others
+-- stops. Memory may also run out.
 abbrev pub IsNoTestFault : ℕ → TextFault → Type 0
 IsNoTestFault line (text_faults.Line number fault) = (number ≡ line) × (fault ≡ line_faults.NotALitmusText)
 IsNoTestFault line text_faults.NoMemory = Unit {0}
@@ -222,9 +222,9 @@ IsFault (first ∷ rest) fault =
     ⊎ ((version : Version) × Writes first.1 (parts_of_first version)
     × IsFaultAmong version said_nothing rest fault)
 
--- ---- on the way
+-- ---- while reading
 
--- what is wrong with the next statement, where so much was said
+-- what is wrong with the next statement, after what was said
 abbrev pub IsNextFault : Version → Said → ℕ → List (List ℕ) → TextFault → Type 0
 IsNextFault version said line words (text_faults.Line number fault) =
     (number ≡ line) × IsWrong version said words fault

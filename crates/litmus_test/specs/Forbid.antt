@@ -1,4 +1,4 @@
--- Which outcomes must not come.
+-- Which outcomes must not occur.
 use Rattle.std.specs.Prelude.{ℕ, ◌==◌, Bool, false, List, slice_get}
 use Rattle.std.specs.List.{list_all, list_any}
 use Rattle.std.specs.Option.{option_map_or}

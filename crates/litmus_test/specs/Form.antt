@@ -19,7 +19,7 @@ abbrev pub text_of_stuck : OutcomeForm → ℕ → List ℕ
 text_of_stuck forms.Table round = codes "stuck round " ++ decimal round ++ codes "\n"
 text_of_stuck forms.Json round = codes "{\"stuck_round\":" ++ number_of round ++ codes "}\n"
 
--- a round was given up after so many moves
+-- a round was given up after `moves` moves
 abbrev pub text_of_gave_up : OutcomeForm → (round moves : ℕ) → List ℕ
 text_of_gave_up forms.Table round moves =
     codes "gave up round " ++ (decimal round ++ (codes " after " ++ (decimal moves ++ codes " moves\n")))

@@ -14,7 +14,7 @@ name_of named = codes "\"" ++ (named.name.now ++ codes "\"")
 abbrev pub word_of : WordAddr → List ℕ
 word_of word = number_of word.0
 
--- the seed of the first round that had an outcome, where the seed of round 0 is known
+-- the seed of the first round that had an outcome, if the seed of round 0 is known
 abbrev pub seed_of : Option ℕ → ℕ → List ℕ
 seed_of None first = []
 seed_of (Some seed) first = codes ",\"seed\":" ++ number_of ((seed + first) % 2 ^ 64)
@@ -25,7 +25,7 @@ outcome_of seed row =
     codes "{\"rounds\":" ++ (number_of row.rounds ++ codes ",\"values\":[") ++ with_commas (map number_of row.values)
     ++ codes "]" ++ seed_of seed row.first ++ codes "}"
 
--- the whole value, in one line, where so many rounds had a forbidden outcome
+-- the whole value, in one line, if `forbidden` rounds had a forbidden outcome
 abbrev pub json_of : LitmusTest → Option ℕ → List RowView → ℕ → List ℕ
 json_of test seed rows forbidden =
     codes "{\"names\":[" ++ with_commas (map name_of test.names.items)

@@ -1,4 +1,4 @@
--- The words with which the lines begin that are no settings.
+-- The first words of the lines that are no settings.
 use Rattle.std.specs.Prelude.{ℕ, List, [], ◌∷◌, codes}
 use Rattle.litmus_test.specs.declared.keyword.Keyword.{Keyword}
 use Rattle.litmus_test.specs.declared.keyword.Keyword.TheVariants as keywords

@@ -36,7 +36,7 @@ parts_of_first version = key (codes "lockup-litmus") ∷ key (number_of version)
 abbrev pub IsNoFirstLine : List (List ℕ) → Type 0
 IsNoFirstLine words = (version : Version) → ¬ Writes words (parts_of_first version)
 
--- version 1 has no words for a compare-exchange
+-- version 1 can't express a compare-exchange
 abbrev pub has_cas : Version → Bool
 has_cas versions.One = false
 has_cas versions.Two = true

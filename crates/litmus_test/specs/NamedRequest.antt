@@ -1,4 +1,4 @@
--- The request that a named step makes, by what its slice's log has of it.
+-- The request that a named step makes, by its entry in the slice's log.
 use Rattle.std.specs.Prelude.{◌≡◌, ℕ, ◌==◌, if◌then◌else◌, List, [], ◌∷◌, ◌++◌, length, take, slice_get, Option, Some}
 use Rattle.std.specs.Prelude.{None, option_and_then}
 use Rattle.address_map.specs.Place.{line_of, slice_of}
@@ -26,8 +26,8 @@ requests_in c slice (actions.Access word op ∷ steps) =
     (if (slice_of c (line_of word)).0 == slice then (word, op) ∷ [] else []) ++ requests_in c slice steps
 requests_in c slice (step ∷ steps) = requests_in c slice steps
 
--- The request that a step of a thread makes, if it is an access: the thread's core makes it, of the slice that has the
--- word, after those that the steps before it make of that slice.
+-- The request that a step of a thread makes, if it is an access: the thread's core makes it, to the slice that has the
+-- word, after those that the steps before it make to that slice.
 abbrev pub request_of : Config → Thread → ℕ → Action → Option NamedRequest
 request_of c thread step (actions.Access word op) =
     let slice = slice_of c (line_of word) in

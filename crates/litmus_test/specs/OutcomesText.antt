@@ -7,23 +7,23 @@ use Rattle.litmus_test.specs.declared.test.LitmusTest.{LitmusTest}
 use Rattle.litmus_test.specs.Forbid.{is_forbidden}
 use Rattle.litmus_test.specs.Table.{RowView}
 
--- a text to the right in 8 places; one that is longer stands whole
+-- a text right-aligned in 8 columns; a longer one is written whole
 abbrev pub right_in_8 : List ℕ → List ℕ
 right_in_8 text = replicate (8 - length text) 32 ++ text
 
--- what a counter's value is called
+-- the label of a counter's value
 abbrev pub counter_label : WordAddr → List ℕ
 counter_label word = codes "[" ++ decimal word.0 ++ codes "]"
 
--- what the values of an outcome are called: by the names, and by the counters' words
+-- the labels of an outcome's values: the names, and the counters' words
 abbrev pub labels_of : LitmusTest → List (List ℕ)
 labels_of test = map (λ named. named.name.now) test.names.items ++ map counter_label test.config.counters
 
--- each value after what it is called
+-- each value after its label
 abbrev pub cells_of : List (List ℕ × ℕ) → List ℕ
 cells_of cells = flat_map (λ cell. codes " " ++ cell.0 ++ codes "=" ++ decimal cell.1) cells
 
--- the seed of the first round that had an outcome, where the seed of round 0 is known
+-- the seed of the first round that had an outcome, if the seed of round 0 is known
 abbrev pub seed_of : Option ℕ → ℕ → List ℕ
 seed_of None first = []
 seed_of (Some seed) first = codes " seed " ++ decimal ((seed + first) % 2 ^ 64)

@@ -1,4 +1,4 @@
--- What a reader of a litmus test knows on its way.
+-- What a reader of a litmus test knows while reading.
 use Rattle.std.specs.Prelude.{◌≡◌, ℕ, ◌+◌, ◌≤◌, List, [], ◌++◌, length, Result, IfOk, IfErr, IsTrue}
 use Rattle.litmus_text.specs.declared.fault.LineFault.{LineFault}
 use Rattle.litmus_text.specs.declared.fault.TextFault.{TextFault}
@@ -12,13 +12,13 @@ use Rattle.litmus_test.specs.Sound.{IsChecked}
 use Rattle.litmus_test.specs.Line.{Line, load, add, cas, forbid, WritesLine, line_of}
 use Rattle.litmus_test.specs.Text.{Said, Says, MayFollow}
 
--- what words are read as: the one line that they write, or a fault where they write none
+-- what words are read as: the one line that they write, or a fault if they write none
 pub record ReadsAs (version : Version) (words : List (List ℕ)) (result : Result ReadLine LineFault) : Type 0 where
   pub written : IfOk result (λ line. WritesLine version words (line_of line))
   pub only : IfOk result (λ line. (other : Line) → WritesLine version words other → other ≡ line_of line)
   pub refused : IfErr result (λ fault. (other : Line) → WritesLine version words other → ⊥)
 
--- why a text was read no further: there was no memory, or it is refused for this
+-- why reading a text stopped: memory ran out, or it is refused for this
 abbrev pub IsNoMemoryOr : Type 0 → TextFault → Type 0
 IsNoMemoryOr refused text_faults.NoMemory = Unit {0}
 IsNoMemoryOr refused (text_faults.Line number fault) = refused
@@ -29,7 +29,7 @@ IsNoMemoryOr refused text_faults.CannotWrite = ⊥
 abbrev pub IsNoNextLine : Version → Said → List (List ℕ) → Type 0
 IsNoNextLine version said words = (line : Line) → WritesLine version words line → ¬ MayFollow said line
 
--- where `start` was said before all statements, so much was said before those that are left
+-- if `start` was said before all statements, `said` was said before those that are left
 pub record IsReading (version : Version) (start said : Said) (all left : List (ℕ × List (List ℕ))) : Type 0 where
   pub done : List (ℕ × List (List ℕ))
   pub split : done ++ left ≡ all
@@ -51,7 +51,7 @@ said_first preamble = record {
   forbidden = [];
 }
 
--- where so much was said before, the statements say the whole, and nothing else
+-- after `said` was said, the statements say the whole, and nothing else
 pub record SayOnly (version : Version) (said : Said) (statements : List (ℕ × List (List ℕ)))
     (whole : Said) : Type 0 where
   pub says : Says version said statements whole

@@ -1,4 +1,4 @@
--- What each litmus test keeps to.
+-- The invariant of a litmus test.
 use Rattle.std.specs.Prelude.{◌≡◌, ◌≢◌, ℕ, Bool, true, false, ◌<◌, ◌≤◌, ◌/◌, List, length, All, AllPairs, Contains}
 use Rattle.std.specs.Prelude.{IsTrue, Some, slice_get, vec_len, None}
 use Rattle.address_map.specs.Config.{first_fault}
@@ -20,7 +20,7 @@ use Rattle.litmus_test.specs.Name.{is_name}
 pub record IsChecked (config : Config) : Type 0 where
   pub no_fault : first_fault config ≡ None
 
--- whether a step is told what its word had
+-- whether a step receives the value that its word had
 abbrev pub reads_value : Action → Bool
 reads_value (actions.Access word ops.Load) = true
 reads_value (actions.Access word (ops.Store value)) = false
@@ -43,7 +43,7 @@ pub record IsThreadOf (config : Config) (thread : Thread) : Type 0 where
   pub few_steps : vec_len thread.steps ≤ MOST_STEPS
   pub steps : All (IsStepOf config) thread.steps.items
 
--- the name is that of a step that is told a value
+-- the name is that of a step that receives a value
 pub record IsReplyOf (threads : List Thread) (named : NamedReply) : Type 0 where
   pub name : IsTrue (is_name named.name.now)
   pub thread : named.thread < length threads
@@ -51,13 +51,13 @@ pub record IsReplyOf (threads : List Thread) (named : NamedReply) : Type 0 where
   pub reads : (t : Thread) (action : Action) → slice_get threads named.thread ≡ Some t
       → slice_get t.steps.items named.step ≡ Some action → IsTrue (reads_value action)
 
--- each pair names one of so many replies
+-- each pair names one of `names` replies
 pub record IsOutcomeOf (names : ℕ) (forbidden : Forbidden) : Type 0 where
   pub some : 1 ≤ vec_len forbidden.pairs
   pub few : vec_len forbidden.pairs ≤ MOST_PAIRS
   pub named : All (λ (pair : Pair). pair.name < names) forbidden.pairs.items
 
--- what each litmus test keeps to
+-- the invariant of a litmus test
 pub record IsSound (config : Config) (rounds movers : ℕ) (threads : List Thread) (names : List NamedReply)
     (forbidden : List Forbidden) : Type 0 where
   pub checked : IsChecked config

@@ -13,7 +13,7 @@ pub record RowView : Type 0 where
   pub rounds : ℕ
   pub first : ℕ
 
--- a table: its rows, and of how many rounds it is
+-- a table: its rows, and the number of its rounds
 pub record TableView : Type 0 where
   pub rows : List RowView
   pub rounds : ℕ
@@ -60,7 +60,7 @@ pub record IsGapFor (rows : List RowView) (values : List ℕ) (at : ℕ) : Type 
   pub smaller_before : All (λ row. slice_cmp nat_cmp row.values values ≡ Less) (take at rows)
   pub greater_after : All (λ row. slice_cmp nat_cmp values row.values ≡ Less) (drop at rows)
 
--- so many more rounds are counted by the row that has their outcome
+-- `more.rounds` more rounds are counted by the row that has their outcome
 pub record CountsAgain (more : RowView) (old new : List RowView) : Type 0 where
   pub at : ℕ
   pub row : RowView
@@ -75,7 +75,7 @@ pub record CountsFirst (more : RowView) (old new : List RowView) : Type 0 where
   pub gap : IsGapFor old more.values at
   pub inserted : new ≡ insert old at more
 
--- a table counts so many more rounds of one outcome, of which the first has the row's number if the outcome is new
+-- a table counts `more.rounds` more rounds of one outcome; `more.first` is the first of them if the outcome is new
 pub record Counts (more : RowView) (old new : TableView) : Type 0 where
   pub rows : CountsAgain more old.rows new.rows ⊎ CountsFirst more old.rows new.rows
   pub rounds : new.rounds ≡ old.rounds + more.rounds

@@ -27,7 +27,7 @@ use Rattle.litmus_test.specs.Sound.{IsChecked}
 use Rattle.litmus_test.specs.Line.{Line, setting, thread, load, store, add, cas, settle, evict, forbid, IsNoFirstLine}
 use Rattle.litmus_test.specs.Line.{WritesLine, parts_of_first}
 
--- a name, and the step whose reply it stands for: the thread and the step, from 0
+-- a name, and the step whose reply it names: the thread and the step, from 0
 pub record Reply : Type 0 where
   pub name : List ℕ
   pub thread : ℕ
@@ -42,7 +42,7 @@ pub record Said : Type 0 where
   pub names : List Reply
   pub forbidden : List (List Pair)
 
--- what holds where nothing was said
+-- the state in which nothing was said
 abbrev pub said_nothing : Said
 said_nothing =
     record { settings = default_settings; rounds = 1; movers = 1; threads = []; names = []; forbidden = [] }
@@ -53,7 +53,7 @@ with_step action [] = []
 with_step action (last ∷ []) = (last.0, last.1 ++ action ∷ []) ∷ []
 with_step action (first ∷ next ∷ more) = first ∷ with_step action (next ∷ more)
 
--- how many steps the last thread has
+-- the number of steps of the last thread
 abbrev pub last_steps : List (CoreId × List Action) → ℕ
 last_steps [] = 0
 last_steps (last ∷ []) = length last.1
@@ -84,14 +84,14 @@ has_name name replies = list_any (λ (reply : Reply). bytes_eq reply.name name) 
 abbrev pub has_core : ℕ → List (CoreId × List Action) → Bool
 has_core core programs = list_any (λ (program : CoreId × List Action). program.0.0 == core) programs
 
--- the place of a name among others, and the pair that a claim comes to
+-- the place of a name among others, and the pair of a claim
 abbrev pub place_of : List Reply → List ℕ → ℕ
 place_of names name = unwrap_or (position (λ (reply : Reply). bytes_eq reply.name name) names) 0
 
 abbrev pub pair_of : List Reply → List ℕ × ℕ → Pair
 pair_of names claim = record { name = place_of names claim.0; value = claim.1 }
 
--- what is said once a line more was read
+-- what is said once one more line was read
 abbrev pub said_line : Said → Line → Said
 said_line said (setting s) = said_setting said s
 said_line said (thread core) = record said { threads = said.threads ++ (record { 0 = core }, []) ∷ [] }
@@ -160,7 +160,7 @@ MayFollow said settle = MayStep said
 MayFollow said (evict line) = MayStep said × (line < said.settings.config.lines)
 MayFollow said (forbid claims) = MayForbid said claims
 
--- where so much was said before, the statements, each a number and words, say the whole: each writes a line that may
+-- after what was said before, the statements, each a number and words, say the whole: each writes a line that may
 -- come next
 unfoldable pub Says : Version → Said → List (ℕ × List (List ℕ)) → Said → Type 0
 Says version said [] whole = said ≡ whole
@@ -168,12 +168,12 @@ Says version said (statement ∷ statements) whole =
     (line : Line) × (WritesLine version statement.1 line × MayFollow said line
     × Says version (said_line said line) statements whole)
 
--- where so much was said before, the statements are lines of a litmus test
+-- after what was said before, the statements are lines of a litmus test
 abbrev pub AreLines : Version → Said → List (ℕ × List (List ℕ)) → Type 0
 AreLines version said statements = (whole : Said) × Says version said statements whole
 
--- The line at fault of a text, by its statements: line 1 where there are none, the first of them where it begins no
--- litmus test, and else the first at fault after it.
+-- The invalid line of a text, by its statements: line 1 if there are none, the first of them if it begins no litmus
+-- test, and else the first invalid one after it.
 abbrev pub IsFaultAt : List (ℕ × List (List ℕ)) → ℕ → Type 0
 IsFaultAt [] number = number ≡ 1
 IsFaultAt (first ∷ rest) number =

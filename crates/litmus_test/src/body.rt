@@ -66,7 +66,7 @@ impl<'a> LitmusTest<'a> {
         }
     }
 
-    // What loads and adds need.
+    // Checks what loads and adds need.
     fn may_read(&self, word: u64, name: &[u8]) -> Result<(), LineFault>
         ensures may { OnOk result (MayAccess (said_by self.now) word × MayName (said_by self.now) name.now) }
         ensures refused { OnErr result (¬ (MayAccess (said_by self.now) word × MayName (said_by self.now) name.now)) }
@@ -77,7 +77,7 @@ impl<'a> LitmusTest<'a> {
         self.may_name(name)
     }
 
-    // What a store needs.
+    // Checks what a store needs.
     fn may_store(&self, word: u64) -> Result<(), LineFault>
         ensures may { OnOk result (MayAccess (said_by self.now) word × MayOverwrite (said_by self.now) word) }
         ensures refused { OnErr result (¬ (MayAccess (said_by self.now) word × MayOverwrite (said_by self.now) word)) }
@@ -88,7 +88,7 @@ impl<'a> LitmusTest<'a> {
         self.may_overwrite(word)
     }
 
-    // What a compare-and-swap needs.
+    // Checks what a compare-and-swap needs.
     fn may_swap(&self, word: u64, name: &[u8]) -> Result<(), LineFault>
         ensures may { OnOk result (MayAccess (said_by self.now) word × MayName (said_by self.now) name.now
             × MayOverwrite (said_by self.now) word) }
@@ -142,7 +142,7 @@ impl<'a> LitmusTest<'a> {
         }
     }
 
-    // How many steps the last thread has.
+    // Returns the number of steps of the last thread.
     fn last_steps(&self) -> usize
         requires { 1 ≤ vec_len self.now.threads }
         ensures { result ≡ last_steps (said_by self.now).threads }
@@ -249,7 +249,7 @@ impl<'a> LitmusTest<'a> {
         claims.iter().all(|claim| self.knows(claim.name))
     }
 
-    /// Says what the line says.
+    /// Applies the line.
     #[tactic(auto, unfolding(crate::specs::Text::MayFollow))]
     fn add(&mut self, alloc: Global, line: Line<'a>) -> Result<(), AllocError>
         requires may { MayFollow (said_by self.old) (line_of line) }
@@ -294,7 +294,7 @@ impl<'a> LitmusTest<'a> {
         Ok(())
     }
 
-    // One more step of the last thread.
+    // Adds a step to the last thread.
     fn push_step(&mut self, action: Action) -> Result<(), AllocError>
         requires may { MayStep (said_by self.old) }
         requires is { IsStepOf self.old.config action }

@@ -11,7 +11,7 @@ use super::test::MOST_PAIRS;
 use arrayvec::ArrayVec;
 use litmus_text::{LineFault, parse_number};
 
-/// That a reply has a value.
+/// The claim that a reply has a value.
 #[derive(Clone, Copy, Default)]
 pub(super) struct Claim<'a> {
     pub name: &'a [u8],
@@ -53,7 +53,7 @@ fn equals_sign_at(word: &[u8]) -> Option<usize>
 }
 
 impl<'a> Claim<'a> {
-    /// The claim that a word writes, as NAME=VALUE.
+    /// Parses a claim, written as NAME=VALUE.
     fn parse(word: &'a [u8]) -> Option<Self>
         ensures written { IfSome result (λ claim. IsClaim word.now claim.name.now claim.value) }
         ensures only { IfSome result (λ claim. (name : List ℕ) (value : ℕ) → IsClaim word.now name value
@@ -69,7 +69,7 @@ impl<'a> Claim<'a> {
     }
 }
 
-/// One to 16 claims, a word each.
+/// Parses one to 16 claims, one word each.
 pub(super) fn parse_claims<'a>(
     words: &[&'a [u8]],
 ) -> Result<ArrayVec<Claim<'a>, MOST_PAIRS>, LineFault>
@@ -93,7 +93,7 @@ pub(super) fn parse_claims<'a>(
     Ok(claims)
 }
 
-// The forms of all words are judged before any number.
+// Checks the forms of all words before any number.
 fn fault_of(words: &[&[u8]]) -> LineFault
     ensures { IsFormFault (IsTrue (list_all has_claim_form (map (λ w. w.now) words.now))) result }
 {

@@ -5,7 +5,7 @@ ghost use Rattle.litmus_text.specs.Table.{value_named};
 
 use litmus_text::value_named;
 
-/// The word with which a line begins that is no setting.
+/// The first word of a line that is no setting.
 #[derive(Clone, Copy)]
 pub(super) enum Keyword {
     Thread,
@@ -31,7 +31,7 @@ static KEYWORDS: [(&[u8], Keyword); 8] = [
 ];
 
 impl Keyword {
-    /// The keyword with this name.
+    /// Returns the keyword with this name.
     pub(super) fn named(name: &[u8]) -> Option<Keyword>
         ensures value { result ≡ value_named keywords_by_name name.now }
         ensures found { IfSome result (λ keyword. name.now ≡ name_of_keyword keyword) }

@@ -1,12 +1,12 @@
-//! Litmus tests: a program for each of some cores, over few words, and outcomes that must not come.
+//! Litmus tests: a program for each of some cores, over few words, and outcomes that must not occur.
 //!
 //! A [`LitmusTest`] is what a litmus text says. Its threads are numbered in the order of the text, and so are the steps
-//! of each. A [`NamedReply`] is a step whose reply an outcome has under a name. All that it speaks of is there, which
-//! each test keeps to (specs/Sound.antt).
+//! of each. A [`NamedReply`] is a step whose reply an outcome has under a name. All that a test names exists, which is
+//! an invariant of each test (specs/Sound.antt).
 //!
-//! [`LitmusTest::read`] reads a text. At Ok its lines say this test and no other, and a text is refused only where it
-//! says none. The line that a fault names is the first with which it can say none (`IsFaultAt`); want of memory is a
-//! fault of its own (specs/Text.antt).
+//! [`LitmusTest::read`] reads a text. If it returns Ok the lines say this test and no other, and a text is refused only
+//! if it says none. The line that a fault names is the first with which it can say none (`IsFaultAt`); running out of
+//! memory is a fault of its own (specs/Text.antt).
 #![tactic(auto)]
 
 pub use outcomes::{

@@ -37,8 +37,7 @@ pub(super) enum Line<'a> {
 }
 
 impl<'a> Line<'a> {
-    /// The line that these words write. They are judged first by their keywords, their count and their names, and then
-    /// as numbers.
+    /// Parses the words of a line. Checks first the keywords, the number of words and the names, and then the numbers.
     pub(super) fn parse(version: Version, words: &[&'a [u8]]) -> Result<Self, LineFault>
         requires { ¬ BeginsAsSetting (map (λ w. w.now) words.now) }
         ensures reads { ReadsAs version (map (λ w. w.now) words.now) result }
@@ -54,7 +53,7 @@ impl<'a> Line<'a> {
     }
 }
 
-// The line of this keyword whose other words these are.
+// Parses the words that follow a line's keyword.
 fn parse_called<'a>(
     version: Version,
     keyword: Keyword,
@@ -216,7 +215,7 @@ fn three_numbers_and_name<'a>(words: &[&'a [u8]]) -> Result<(u64, u64, u64, &'a 
     ))
 }
 
-// The name that a word has to be.
+// Parses a word that has to be a name.
 fn name_of(word: &[u8]) -> Result<&[u8], LineFault>
     ensures same { IfOk result (λ name. name.now ≡ word.now) }
     ensures form { IfOk result (λ name. IsTrue (is_name_lem word.now)) }
@@ -230,7 +229,7 @@ fn name_of(word: &[u8]) -> Result<&[u8], LineFault>
     }
 }
 
-// The number that a word has to spell.
+// Parses a word that has to be a number.
 fn number_of(word: &[u8]) -> Result<u64, LineFault>
     ensures ok { OkIff result (IsNumber word.now) (digits_value 10 word.now) }
     ensures err { IfErr result (λ fault. fault ≡ LineFault.BadNumber) }

@@ -6,7 +6,7 @@ use super::test::{LitmusTest, MOST_MOVERS, MOST_ROUNDS};
 use litmus_text::{ConfigLine, LineFault, Settings, TextFault};
 use std::alloc::Global;
 
-/// What the settings of a test say so far.
+/// The settings of a test that were read so far.
 #[derive(Drop)]
 pub(super) struct Preamble {
     pub settings: Settings,
@@ -70,7 +70,7 @@ impl Preamble {
         Ok(())
     }
 
-    /// The test that has these settings, and no thread.
+    /// Returns the test that has these settings, and no thread.
     #[tactic(auto, unfolding(crate::specs::Reading::said_first, crate::specs::Text::said_by))]
     pub(super) fn test<'a>(self, alloc: Global) -> Result<LitmusTest<'a>, TextFault>
         ensures said { IfOk result (λ test. said_by test ≡ said_first self) }

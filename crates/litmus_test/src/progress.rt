@@ -1,10 +1,10 @@
-/// What is told how far a run of many rounds has got.
+/// Receives the progress of a run of many rounds.
 pub trait Progress {
-    /// So many rounds of all are done.
+    /// `rounds` of `all` rounds are done.
     fn done(&mut self, rounds: u64, all: u64);
 }
 
-/// Keeps it to itself.
+/// Reports nothing.
 #[derive(Clone, Copy, Debug, PartialEq, Eq)]
 pub struct Silent;
 

@@ -20,7 +20,7 @@ use litmus_text::{LineFault, Statement, Statements, TextFault};
 use std::alloc::Global;
 
 impl<'a> LitmusTest<'a> {
-    /// Reads a litmus test. The only faults are want of memory, a faulty line, and a configuration that is refused.
+    /// Reads a litmus test. The only faults are running out of memory, a faulty line, and a refused configuration.
     pub fn read(alloc: Global, input: &'a [u8]) -> Result<LitmusTest<'a>, TextFault>
         ensures written { IfOk result (λ test. IsLitmusTest input.now (said_by test)) }
         ensures only { IfOk result (λ test. (other : Said) → IsLitmusTest input.now other → other ≡ said_by test) }
@@ -65,7 +65,7 @@ impl<'a> LitmusTest<'a> {
         }
     }
 
-    // The fault of a line that isn't well formed. In another's part it would be none either if it were.
+    // Returns the fault of a malformed line. In the wrong part of the text it would be refused even if well formed.
     fn fault_of(&self, words: &[&[u8]], fault: LineFault) -> LineFault
         ensures astray { IsAstray (said_by self.now) (keyword_of (map (λ w. w.now) words.now))
             → result ≡ LineFault.NotACommand }
@@ -78,7 +78,7 @@ impl<'a> LitmusTest<'a> {
         }
     }
 
-    // Whether a line that begins with this keyword, or with none, stands in another's part.
+    // Whether a line that begins with this keyword, or with none, is in the wrong part of the text.
     fn is_astray(&self, keyword: Option<Keyword>) -> bool
         ensures { IsTrue result ↔ IsAstray (said_by self.now) keyword }
     {
@@ -138,7 +138,7 @@ impl<'a> LitmusTest<'a> {
         self.read_line(alloc, version, statement)
     }
 
-    // The fault of a setting after the first thread, or after a `forbid` where no thread came.
+    // Returns the fault of a setting after the first thread, or after a `forbid` if no thread came.
     fn late_fault(&self, words: &[&[u8]]) -> LineFault
         requires begun { IsBegun (said_by self.now) }
         requires begins { BeginsAsSetting (map (λ w. w.now) words.now) }
@@ -214,7 +214,7 @@ fn read_statements<'a>(
     preamble.test(alloc)
 }
 
-/// Reads the lines from the first on that is no setting.
+/// Reads the lines from the first that is no setting on.
 fn read_threads<'a>(
     alloc: Global,
     version: Version,

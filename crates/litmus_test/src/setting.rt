@@ -11,7 +11,7 @@ pub(super) enum Setting {
     Config(ConfigLine),
     /// How many times the test is run.
     Rounds(u64),
-    /// How many threads move messages beside those of the cores.
+    /// The number of threads that move messages, besides those of the cores.
     Movers(u64),
 }
 
@@ -23,7 +23,7 @@ impl Setting {
         name == b"rounds".as_slice() || name == b"movers".as_slice() || ConfigLine::is_named(name)
     }
 
-    /// The setting that these words write.
+    /// Parses the words of a setting.
     #[tactic(auto, unfolding(crate::specs::Line::WritesSetting))]
     pub(super) fn parse(words: &[&[u8]]) -> Result<Self, LineFault>
         ensures written { IfOk result (λ setting. WritesSetting (map (λ w. w.now) words.now) setting) }

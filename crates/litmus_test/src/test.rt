@@ -6,7 +6,7 @@ use mshr_file::MissKind;
 /// The most rounds of a test.
 pub const MOST_ROUNDS: u64 = 10_000;
 
-/// The most threads that move messages beside those of the cores.
+/// The most threads that move messages, besides those of the cores.
 pub const MOST_MOVERS: u8 = 4;
 
 /// The most steps of a thread.
@@ -18,7 +18,7 @@ pub const MOST_NAMES: usize = 16;
 /// The most bytes of a name.
 pub const LONGEST_NAME: usize = 16;
 
-/// The most pairs of an outcome that must not come.
+/// The most pairs of an outcome that must not occur.
 pub const MOST_PAIRS: usize = 16;
 
 /// A step of a thread.
@@ -27,7 +27,7 @@ pub enum Action {
     Access(WordAddr, Op),
     /// Waits until all requests of the core were answered.
     Settle,
-    /// Gives up the core's copy of a line, if it can at once.
+    /// Evicts the core's copy of a line, if possible at once.
     Evict(LineAddr),
 }
 
@@ -53,13 +53,13 @@ pub struct Pair {
     pub value: u64,
 }
 
-/// An outcome that must not come: all pairs hold.
+/// An outcome that must not occur: all pairs hold.
 #[derive(Debug, Drop)]
 pub struct Forbidden {
     pub pairs: Vec<Pair>,
 }
 
-/// A litmus test. It is run so many times, each time on a new machine with so many threads that move messages.
+/// A litmus test. It is run `rounds` times, each time on a new machine with `movers` threads that move messages.
 #[derive(Debug, Drop)]
 pub struct LitmusTest<'a> {
     pub config: Checked,

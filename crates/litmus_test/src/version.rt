@@ -5,7 +5,7 @@ ghost use Rattle.litmus_test.specs.Line.{has_cas, number_of, parts_of_first};
 
 use litmus_text::LineFault;
 
-/// How a litmus test is written.
+/// The version of a litmus test's text.
 #[derive(Clone, Copy)]
 pub(super) enum Version {
     /// Without compare-exchanges.
@@ -14,7 +14,7 @@ pub(super) enum Version {
 }
 
 impl Version {
-    /// The version that the words of the first line name.
+    /// Parses the words of the first line.
     pub(super) fn parse(words: &[&[u8]]) -> Result<Self, LineFault>
         ensures written { IfOk result (λ version. Writes (map (λ w. w.now) words.now) (parts_of_first version)) }
         ensures only { IfOk result (λ version. (other : Version)
@@ -32,7 +32,7 @@ impl Version {
         version_of(rest)
     }
 
-    /// Whether it has words for a compare-exchange.
+    /// Whether it can express a compare-exchange.
     pub(super) const fn has_cas(self) -> bool
         ensures { result ≡ has_cas self }
     {
@@ -40,7 +40,7 @@ impl Version {
     }
 }
 
-// The version, after the word that all litmus tests begin with.
+// Parses the version, after the first word of all litmus tests.
 #[tactic(auto, using(litmus_text::proofs::FormLemmas::wrong_count))]
 fn version_of(words: &[&[u8]]) -> Result<Version, LineFault>
     ensures written { IfOk result (λ version. Writes (map (λ w. w.now) words.now) (key (number_of version) ∷ [])) }

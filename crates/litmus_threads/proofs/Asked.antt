@@ -1,4 +1,4 @@
--- What steps ask of a slice, step by step, and what was asked of it.
+-- The requests that steps make to a slice, step by step, and those that were made.
 use Rattle.std.proofs.Common.{◌≡◌, ℕ, zero, suc, ◌+◌, ◌<◌, ◌≤◌, ◌∙◌, List, [], ◌∷◌, ◌++◌, ap, append-nil, append_assoc}
 use Rattle.std.proofs.Common.{arith, below_more, get_or, length, refl, subst, sym, take}
 use Rattle.std.specs.Prelude.{◌==◌, if◌then◌else◌, IsSomeAnd, slice_get}
@@ -33,7 +33,7 @@ pub asked-inside : (asked : List Ask) (next : ℕ) (word : WordAddr) (op : Op)
 asked-inside asked next word op at_next =
     let (ask, there, is, same_word, same_op) = found-at asked next at_next in there
 
--- steps in a row ask for what each part asks for
+-- steps in a row make the requests of each part
 requests-append : (c : Config) (slice : ℕ) (first later : List Action)
     → requests_in c slice (first ++ later) ≡ requests_in c slice first ++ requests_in c slice later
 requests-append c slice [] later = refl
@@ -44,7 +44,7 @@ requests-append c slice (actions.Access word op ∷ first) later =
 requests-append c slice (actions.Settle ∷ first) later = requests-append c slice first later
 requests-append c slice (actions.Evict line ∷ first) later = requests-append c slice first later
 
--- one step more
+-- one more step
 requests-more : (c : Config) (slice : ℕ) (steps : List Action) (i : ℕ) (d : Action) (own : List (WordAddr × Op))
     → i < length steps → requests_in c slice (get_or steps i d ∷ []) ≡ own
     → requests_in c slice (take (i + 1) steps) ≡ requests_in c slice (take i steps) ++ own
@@ -53,7 +53,7 @@ requests-more c slice steps i d own inside asks =
     ∙ requests-append c slice (take i steps) (get_or steps i d ∷ [])
     ∙ ap (λ more. requests_in c slice (take i steps) ++ more) asks
 
--- Where a step asks the slice for nothing, as much was asked before.
+-- If a step makes no request to the slice, the same was requested before.
 pub asked-still : (c : Config) (slice : ℕ) (steps : List Action) (asked : List Ask) (i next : ℕ) (d : Action)
     → i < length steps → requests_in c slice (get_or steps i d ∷ []) ≡ []
     → accesses_of (take next asked) ≡ requests_in c slice (take i steps)
@@ -63,7 +63,7 @@ asked-still c slice steps asked i next d inside asks so_far =
     ∙ sym (append-nil (requests_in c slice (take i steps)))
     ∙ sym (requests-more c slice steps i d [] inside asks)
 
--- Where it asks for an access, and that was asked for next, the same holds with one more.
+-- If it requests an access, and that was requested next, the same holds with one more.
 pub asked-more : (c : Config) (slice : ℕ) (steps : List Action) (asked : List Ask) (i next : ℕ) (d : Action)
     (word : WordAddr) (op : Op) → i < length steps → requests_in c slice (get_or steps i d ∷ []) ≡ (word, op) ∷ []
     → IsSomeAnd (slice_get asked next) (λ ask. (ask.request.word ≡ word) × (ask.request.op ≡ op))
@@ -83,7 +83,7 @@ asked-more c slice steps asked i next d word op inside asks at_next so_far =
     ∙ sym (requests-more c slice steps i d ((word, op) ∷ []) inside asks) in
     (omega arith, grown)
 
--- One slice more accepted just what the steps ask of it.
+-- One more slice accepted exactly the requests of the steps.
 pub asked-below : (c config : Config) (limit : ℕ) (steps : List Action) (v : CoreView)
     → HasMadeBelow c limit steps v → config ≡ c
     → accesses_of (asked_of v limit) ≡ requests_in config limit steps → HasMadeBelow c (limit + 1) steps v
@@ -97,7 +97,7 @@ all-push : {X : Type 0} (P : X → Type 0) (xs : List X) (x : X) → AllByRecurs
 all-push P [] x all one = (one, tt)
 all-push P (y ∷ xs) x all one = (all.0, all-push P xs x all.1 one)
 
--- One core more has made what its thread says.
+-- One more core has made its thread's requests.
 pub made-more : (c : Config) (threads : List Thread) (cores : List CoreView) (i : ℕ) (v : CoreView) (number : CoreId)
     (steps : List Action) → i < length cores → v ≡ get_or cores i v → number ≡ v.core → steps ≡ steps_at threads number
     → HasMadeBelow c c.slices steps v → HaveMadeAll c threads (take i cores)

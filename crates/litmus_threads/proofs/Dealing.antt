@@ -1,4 +1,4 @@
--- Cores that are dealt out to threads one after the other.
+-- Cores that are assigned to threads one after the other.
 use Rattle.std.proofs.Common.{◌≡◌, ℕ, Bool, true, false, List, [], ◌∷◌, ◌++◌, ◌∙◌, Option, Some, ap, append-nil}
 use Rattle.std.proofs.Common.{subst, sym}
 use Rattle.std.specs.Prelude.{Err, IfOk, IsOkAnd, Ok, Result, cond, filter, is_some, map, not}
@@ -28,7 +28,7 @@ fails test cores v so =
     ∙ ap (λ (b : Bool). filter test cores ++ cond b (v ∷ []) []) so
     ∙ append-nil (filter test cores)
 
--- one core more that has a thread
+-- one more core that has a thread
 pub thread-dealt : (threads : List Thread) (seed round : ℕ) (cores working : List CoreView) (programs : List (List Step))
     (idle : List CoreView) (v : CoreView) (thread : Thread) (program : List Step)
     → Some thread ≡ thread_at threads v.core
@@ -50,7 +50,7 @@ thread-dealt threads seed round cores working programs idle v thread program fou
       idle_are = dealt.idle_are ∙ sym (fails (λ w. not (has_thread threads w)) cores v (ap not has));
     }
 
--- The same, where the program was made and its core put to work.
+-- The same, if the program was made and its core put to work.
 pub thread-taken : {P E : Type 0} (made : Result P E) (steps_in : P → List Step) (threads : List Thread)
     (seed round : ℕ) (cores working grown : List CoreView) (programs more : List (List Step)) (idle : List CoreView) (v : CoreView)
     (thread : Thread) (shown : List Action)

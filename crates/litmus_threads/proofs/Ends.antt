@@ -20,7 +20,7 @@ use Rattle.litmus_test.specs.Form.{text_of_outcomes, text_of_stuck}
 use Rattle.litmus_test.specs.declared.outcomes.form.OutcomeForm.{OutcomeForm}
 use Rattle.receipt_ledger.specs.declared.receipt.Receipt.{Receipt}
 
--- One round more had an outcome of the test, and was counted.
+-- One more round had an outcome of the test, and was counted.
 pub table-more : (test : LitmusTest) (round : ℕ) (old new : TableView) (values shown : List ℕ)
     (named_requests : List (Option NamedRequest)) → shown ≡ values → named_requests ≡ named_requests_of test →
     IsTableFor test round old
@@ -39,7 +39,7 @@ table-more test round old new values shown named_requests same named so_far foun
       each = All-push (IsOutcomeOf test) so_far.outcomes values so_far.each own;
     }
 
--- What was told in calls of a writer is told in what these calls come to, where they also show that they left it so.
+-- What was reported in calls of a writer is reported in their combined result, if they also show that they left it so.
 pub told-in-calls : {S X N : Type 0} (gives : S → List ℕ → S → Type 0) (old new : S) (test : LitmusTest) (form : OutcomeForm)
     (run : Run) (written : X → List ℕ → Type 0) (left exit : X) → IsTold test form (λ text. WritesInCalls gives old text new) run
     → ((text : List ℕ) → WritesInCalls gives old text new → N × written left text) → (N → left ≡ exit)
@@ -54,7 +54,7 @@ told-in-calls {S} {X} {N} gives old new test form (runs.Stuck round) written lef
     let wrote : N × written left text = on text told in
     subst (λ (x : X). written x text) (same wrote.0) wrote.1
 
--- A run that was told has ended in one of the two ways.
+-- A run that was reported has ended in one of the two ways.
 pub ended : (test : LitmusTest) (form : OutcomeForm) (run : Run) (written : List ℕ → Type 0) (told : Result ℕ TextFault) → IsRunOf test run
     → OnOk told (IsTold test form written run) → IfOk told (HasStatus test run) → IfOk told (IsEndOf test form written)
 ended test form (runs.Whole table) written (Ok status) of_test told has =

@@ -1,4 +1,4 @@
--- The history of a slice in all receipts: the log that the cores' ports hold is what its receipts are put together to.
+-- The history of a slice in all receipts: the log that the cores' ports hold is the one that is built from its receipts.
 use Rattle.std.proofs.Common.{◌≡◌, ℕ, ◌<◌, ◌≤◌, ◌∙◌, List, [], ◌∷◌, ◌++◌, Some, ap, arith, eq-eqb}
 use Rattle.std.proofs.Common.{lt-ltb, refl, subst, sym}
 use Rattle.std.specs.Prelude.{◌==◌, Contains, if◌then◌else◌, slice_get}
@@ -69,7 +69,7 @@ together : (cores : List CoreView) (slice : ℕ)
 together [] slice = refl
 together (v ∷ cores) slice = ap (λ (rs : List Receipt). (port_at v slice).receipts ++ rs) (together cores slice)
 
--- what the ports have together one of them has
+-- a receipt of all ports together is one of some port
 in-port : (cores : List CoreView) (slice : ℕ) (r : Receipt) → Contains (receipts_in (ports_of cores slice)) r
     → (v : CoreView) × Contains cores v × Contains (port_at v slice).receipts r
 in-port cores slice r has =

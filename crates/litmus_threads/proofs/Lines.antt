@@ -33,7 +33,7 @@ last_number text_of number limit past =
     let none : limit - number ≡ 0 = omega (arith, past) in
     ap (λ (n : ℕ). flat_map text_of (range_with_len number n)) none
 
--- What one entry more adds.
+-- What one more entry adds.
 pub named-more : (log : List Entry) (i : ℕ) (d : Entry) (word sum added : ℕ) → i < length log
     → sum ≡ named (take i log) word % 2 ^ 64 → added ≡ added_to word (get_or log i d)
     → (sum + added) % 2 ^ 64 ≡ named (take (i + 1) log) word % 2 ^ 64

@@ -1,4 +1,4 @@
--- A slice's log, put together number by number.
+-- A slice's log, built number by number.
 use Rattle.std.proofs.Common.{◌≡◌, ℕ, ◌+◌, ◌<◌, ◌≤◌, ◌∙◌, List, [], ◌∷◌, ◌++◌, Some, ap, arith, inl, inr, length, map}
 use Rattle.std.proofs.Common.{subst, sym, take}
 use Rattle.std.specs.Prelude.{All, Contains, slice_get}
@@ -20,7 +20,7 @@ inside xs i x there = elim (slice_get_cases xs i).1 [
   | inr past ↦ absurd (let no = sym there ∙ past.1 in cc)
 ]
 
--- The receipt of the next number goes on with the log.
+-- The receipt of the next number continues the log.
 pub log-more : (slice : SliceId) (receipts : List Receipt) (r : Receipt) (whole log grown : List Entry) (number : ℕ)
     → AreEntriesOf slice receipts whole → Contains receipts r → IsNumbered slice number r
     → log ≡ take number whole → grown ≡ log ++ r.entry ∷ [] → grown ≡ take (number + 1) whole
@@ -31,7 +31,7 @@ log-more slice receipts r whole log grown number are has is so_far grows =
     ∙ ap (λ (e : Entry). take number whole ++ e ∷ []) (sym (get_or_from_slice_get whole number r.entry r.entry there))
     ∙ sym (take_more whole number r.entry (inside whole number r.entry there))
 
--- Where no receipt has the next number, the log is whole.
+-- If no receipt has the next number, the log is whole.
 pub log-whole : (slice : SliceId) (receipts : List Receipt) (whole log : List Entry) (number : ℕ)
     → AreEntriesOf slice receipts whole → All (λ r. ¬ IsNumbered slice number r) receipts → log ≡ take number whole
     → log ≡ whole

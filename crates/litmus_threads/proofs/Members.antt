@@ -1,4 +1,4 @@
--- What stands in lists that are put together of others.
+-- The members of lists that are built from others.
 use Rattle.std.proofs.Common.{◌≡◌, ℕ, zero, suc, ◌+◌, ◌<◌, ◌∙◌, ◌⊎◌, Bool, true, false, List, [], ◌∷◌, ap, arith}
 use Rattle.std.proofs.Common.{filter, inl, inr, map, refl, subst, sym}
 use Rattle.std.specs.Prelude.{◌==◌, if◌then◌else◌, Contains}
@@ -51,7 +51,7 @@ module _ {X : Type 0} where
   from-kept p (y ∷ xs) x has = from-first p y xs x (p y) refl (from-kept p xs x) has
 
 module _ {X Y : Type 0} (f : X → List Y) where
-  -- what one of the lists has, they have together
+  -- a member of one of the lists is one of all together
   pub in-all : (xs : List X) (x : X) (y : Y) → Contains xs x → Contains (f x) y → Contains (flat_map f xs) y
   in-all [] x y has one = absurd (none x has)
   in-all (z ∷ xs) x y has one = elim (first-or-later x z xs has) [
@@ -60,7 +60,7 @@ module _ {X Y : Type 0} (f : X → List Y) where
     | inr later ↦ Contains-append_right (f z) (flat_map f xs) y (in-all xs x y later one)
   ]
 
-  -- .. and what they have together one of them has
+  -- .. and a member of all together is one of some list
   pub in-one : (xs : List X) (y : Y) → Contains (flat_map f xs) y → (x : X) × Contains xs x × Contains (f x) y
   in-one [] y has = absurd (none y has)
   in-one (x ∷ xs) y has = elim (Contains-append_cases (f x) (flat_map f xs) y has) [
@@ -91,7 +91,7 @@ counted-first number x xs n false is more some =
     let left : 0 < 0 + times n (map number xs) = rw is at some in
     let (y, among, same) = more (omega (arith, left)) in (y, there y x xs among, same)
 
--- What is counted stands there.
+-- What is counted is a member.
 pub counted : {X : Type 0} (number : X → ℕ) (xs : List X) (n : ℕ) → 0 < times n (map number xs)
     → (x : X) × Contains xs x × (number x ≡ n)
 counted number [] n some = absurd (omega (arith, some))

@@ -11,7 +11,7 @@ use Rattle.litmus_threads.specs.Made.{AreOwners}
 use Rattle.receipt_ledger.specs.Port.{AreOwn}
 use Rattle.receipt_ledger.specs.declared.receipt.Receipt.{Receipt}
 
--- The receipts of one slice more are its own.
+-- The receipts of one more slice are its own.
 pub own-below : (c : Config) (limit : ℕ) (v : CoreView) (receipts : List Receipt) → HasItsOwn c limit v
     → receipts ≡ receipts_of v limit → AreOwn c limit (port_at v limit).core receipts → HasItsOwn c (limit + 1) v
 own-below c limit v receipts so_far are own =
@@ -24,7 +24,7 @@ all-push : {X : Type 0} (P : X → Type 0) (xs : List X) (x : X) → AllByRecurs
 all-push P [] x all one = (one, tt)
 all-push P (y ∷ xs) x all one = (all.0, all-push P xs x all.1 one)
 
--- One core more is one of the machine's.
+-- One more core is one of the machine's.
 pub owners-more : (c : Config) (cores : List CoreView) (i : ℕ) (v : CoreView) (number : CoreId) → i < length cores
     → v ≡ get_or cores i v → number ≡ v.core → number.0 < c.cores → HasItsOwn c c.slices v
     → AreOwners c (take i cores) → AreOwners c (take (i + 1) cores)

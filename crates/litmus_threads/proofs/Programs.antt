@@ -8,7 +8,7 @@ use Rattle.core_thread_system.specs.declared.program.Step.{Step}
 use Rattle.core_thread_system.specs.declared.program.Step.TheVariants as steps
 use Rattle.rand_xoshiro.specs.Xoshiro256.{plus_plus}
 
--- one step more is done, where the turns of the next word and the thread's next step are appended in turn
+-- one more step is done, if the turns of the next word and then the thread's next step are appended
 pub program-grows : (thread : List Action) (i : ℕ) (whole : List Step) (words next : List ℕ) (word : ℕ)
     (program turned grown : List Step) (step : Step) (d : Action)
     → i < length thread → whole ≡ program ++ program_of words (drop i thread)
@@ -28,7 +28,7 @@ program-grows thread i whole words next word program turned grown step d inside 
     ∙ sym (append_assoc turned (step ∷ []) rest)
     ∙ ap (λ (ss : List Step). ss ++ rest) (sym grows)
 
--- the program is whole where no step is left
+-- the program is whole if no step is left
 pub program-whole : (thread : List Action) (i : ℕ) (whole : List Step) (words : List ℕ) (program : List Step)
     → length thread ≤ i → whole ≡ program ++ program_of words (drop i thread) → program ≡ whole
 program-whole thread i whole words program ended so_far =

@@ -6,7 +6,7 @@ use Rattle.litmus_test.specs.declared.outcomes.named_request.NamedRequest.{Named
 use Rattle.litmus_threads.specs.Found.{HasReply}
 use Rattle.receipt_ledger.specs.declared.receipt.Receipt.{Receipt}
 
--- two lists that fit place by place do so with one more place
+-- two lists that match place by place do so with one more place
 pub zip-push : {X Y : Type 0} (R : X → Y → Type 0) (xs : List X) (ys : List Y) (x : X) (y : Y)
     → AllZip R xs ys → R x y → AllZip R (xs ++ x ∷ []) (ys ++ y ∷ [])
 zip-push R [] [] x y all one = (one, tt)
@@ -14,7 +14,7 @@ zip-push R [] (b ∷ ys) x y all one = absurd all
 zip-push R (a ∷ xs) [] x y all one = absurd all
 zip-push R (a ∷ xs) (b ∷ ys) x y (first, rest) one = (first, zip-push R xs ys x y rest one)
 
--- one request more has its reply
+-- one more request has its reply
 pub replies-more : (receipts shown : List Receipt) (named_requests : List (Option NamedRequest)) (i reply : ℕ)
     (d : Option NamedRequest)
     (values grown : List ℕ) → i < length named_requests → shown ≡ receipts

@@ -1,4 +1,4 @@
--- How the cores of a machine are dealt out to threads.
+-- How the cores of a machine are assigned to threads.
 use Rattle.std.specs.Prelude.{◌≡◌, ℕ, Bool, not, List, filter, is_some, map}
 use Rattle.core_thread_system.specs.Core.{CoreView}
 use Rattle.core_thread_system.specs.declared.program.Step.{Step}
@@ -14,8 +14,8 @@ has_thread threads v = is_some (thread_at threads v.core)
 abbrev pub program_for : List Thread → ℕ → ℕ → CoreView → List Step
 program_for threads seed round v = program_of (generator_of seed round v.core) (steps_at threads v.core)
 
--- The cores that have a thread are those that work, in order, each with a program of its thread and with the turns that
--- its seed draws in the round, and the others are idle.
+-- The cores that have a thread are those that work, in order, each with a program of its thread and the turns that its
+-- seed draws in the round. The others are idle.
 pub record AreDealt (threads : List Thread) (seed round : ℕ) (cores working : List CoreView)
     (programs : List (List Step)) (idle : List CoreView) : Type 0 where
   pub working_are : working ≡ filter (has_thread threads) cores

@@ -1,4 +1,4 @@
--- What the rounds of a litmus test come to.
+-- The results of a litmus test's rounds.
 use Rattle.std.specs.Prelude.{◌≡◌, ℕ, ◌<◌, All, List, Option, length, map}
 use Rattle.std.specs.List.{range_with_len}
 use Rattle.address_map.specs.declared.config.Config.{Config}
@@ -20,7 +20,7 @@ use Rattle.receipt_ledger.specs.declared.receipt.Receipt.{Receipt}
 abbrev pub named_requests_of : LitmusTest → List (Option NamedRequest)
 named_requests_of test = map (named_request_of test) (range_with_len 0 (length test.names.items))
 
--- The cores of a machine made what the threads say and nothing else, and the machine was audited with them.
+-- The cores of a machine made the requests of the threads and no others, and the machine was audited with them.
 pub record IsRoundOf (c : Config) (threads : List Thread) (receipts : List Receipt) (counters : List CounterValue)
     : Type 0 where
   pub cores : List CoreView
@@ -28,8 +28,8 @@ pub record IsRoundOf (c : Config) (threads : List Thread) (receipts : List Recei
   pub owners : AreOwners c cores
   pub audited : IsAudited c cores receipts counters
 
--- The cores of a machine made what the threads say and nothing else, the machine was audited with them, and this is
--- what the audit found: the outcome is told by a legal log of each slice.
+-- The cores of a machine made the requests of the threads and no others, the machine was audited with them, and this is
+-- what the audit found: the outcome is that of a legal log of each slice.
 pub record IsFoundOn (c : Config) (threads : List Thread) (named_requests : List (Option NamedRequest))
     (values : List ℕ) : Type 0
   where
@@ -44,14 +44,14 @@ pub record IsFoundOn (c : Config) (threads : List Thread) (named_requests : List
 abbrev pub IsOutcomeOf : LitmusTest → List ℕ → Type 0
 IsOutcomeOf test values = IsFoundOn test.config test.threads.items (named_requests_of test) values
 
--- The table is of so many rounds, and each had an outcome of the test.
+-- The table is of `rounds` rounds, and each had an outcome of the test.
 pub record IsTableFor (test : LitmusTest) (rounds : ℕ) (table : TableView) : Type 0 where
   pub outcomes : List (List ℕ)
   pub table_is : IsTableOf outcomes table
   pub each_round : length outcomes ≡ rounds
   pub each : All (IsOutcomeOf test) outcomes
 
--- what a run of all rounds may come to
+-- what a run of all rounds may result in
 abbrev pub IsRunOf : LitmusTest → Run → Type 0
 IsRunOf test (runs.Whole table) = IsTableFor test test.rounds table
 IsRunOf test (runs.Stuck round) = round < test.rounds

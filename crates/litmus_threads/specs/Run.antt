@@ -10,7 +10,7 @@ use Rattle.litmus_threads.specs.declared.rounds.Run.TheVariants as runs
 use Rattle.litmus_test.specs.Form.{text_of_outcomes, text_of_stuck}
 use Rattle.litmus_test.specs.declared.outcomes.form.OutcomeForm.{OutcomeForm}
 
--- the exit status where the rounds had these outcomes: 0 where none of them was forbidden
+-- the exit status if the rounds had these outcomes: 0 if none of them was forbidden
 abbrev pub status_of : LitmusTest → List (List ℕ) → ℕ
 status_of test outcomes = if count_by (is_forbidden test) outcomes == 0 then 0 else 1
 

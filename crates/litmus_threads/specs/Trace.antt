@@ -1,4 +1,4 @@
--- The traces of a round: each slice's log, and after it what the audit said of it.
+-- The traces of a round: each slice's log, and after it what the audit found.
 use Rattle.std.specs.Prelude.{◌≡◌, ◌⊎◌, ℕ, zero, suc, ◌==◌, ◌%◌, ◌^◌, nat_lt, if◌then◌else◌, List, [], ◌++◌, codes}
 use Rattle.std.specs.Prelude.{decimal, filter, length}
 use Rattle.std.specs.List.{flat_map, range_with_len}
@@ -21,7 +21,7 @@ use Rattle.slice_log.specs.declared.entry.Entry.{Entry}
 
 -- ---- the text
 
--- the line before a slice's trace, where the machine has several slices
+-- the line before a slice's trace, if the machine has several slices
 abbrev pub heading_of : Config → ℕ → List ℕ
 heading_of c slice = if nat_lt 1 c.slices then codes "# slice " ++ (decimal slice ++ codes "\n") else []
 
@@ -34,7 +34,7 @@ text_of_core log core =
     codes "# core " ++ (decimal core ++ (codes ": " ++ (decimal (accesses_by core log)
     ++ codes " of these accesses, each once\n")))
 
--- so much of each core
+-- the number of accesses of each core
 abbrev pub text_of_cores : ℕ → List Entry → List ℕ
 text_of_cores cores log = flat_map (text_of_core log) (range_with_len 0 cores)
 
@@ -45,12 +45,12 @@ text_of_counter c log counter =
     ++ (codes " at first, " ++ (decimal (named log counter.word.0 % 2 ^ 64) ++ (codes " added, "
     ++ (decimal counter.value ++ codes " now\n")))))))
 
--- so much of each counter of the slice
+-- the text of each counter of the slice
 abbrev pub text_of_counters : Config → ℕ → List Entry → List CounterValue → List ℕ
 text_of_counters c slice log counters =
     flat_map (text_of_counter c log) (filter (λ counter. is_of_slice c slice counter.word) counters)
 
--- a slice's log as a trace, and after it what the audit said of it
+-- a slice's log as a trace, and after it what the audit found
 abbrev pub text_of_slice : Config → List CounterValue → ℕ → List Entry → List ℕ
 text_of_slice c counters slice log =
     heading_of c slice ++ (text_of_trace c.cores (init_of c slice) log ++ (text_of_cores c.cores log
@@ -73,8 +73,8 @@ AreTracesBelow c cores counters (suc slice) text =
 
 -- ---- how it ends
 
--- The cores of a machine made what the test's threads say and nothing else, the machine was audited with them, and the
--- trace of each slice was written.
+-- The cores of a machine made the requests of the test's threads and no others, the machine was audited with them, and
+-- the trace of each slice was written.
 pub record IsTraced (test : LitmusTest) (written : List ℕ → Type 0) (status : ℕ) : Type 0 where
   pub cores : List CoreView
   pub receipts : List Receipt

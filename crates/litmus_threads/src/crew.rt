@@ -72,7 +72,7 @@ impl<'a, F: MissFile, M: SystemKeys> Crew<'a, F, M> {
         Ok(())
     }
 
-    /// Whether each thread has done all its steps. An `Err` says that one was refused for want of memory.
+    /// Whether each thread has done all its steps. Returns `Err` if one was refused because memory ran out.
     pub(crate) fn has_ended(&self) -> Result<bool, AllocError> {
         let mut all = true;
         for job in &self.jobs {
@@ -85,7 +85,7 @@ impl<'a, F: MissFile, M: SystemKeys> Crew<'a, F, M> {
         Ok(all)
     }
 
-    /// All its cores.
+    /// Returns all its cores.
     pub(crate) fn cores(self) -> Result<Vec<Core<'a, F, All<M>>>, AllocError> {
         let Crew { jobs, idle } = self;
         let mut cores = idle;
@@ -106,8 +106,8 @@ fn generator_of(seed: u64, round: u64, core: CoreId) -> Xoshiro256PlusPlus
     Xoshiro256PlusPlus::seed_from_u64(seed)
 }
 
-// Appends a job with this program, if there was memory for one. Otherwise the core is dropped in one call: at a `?` it
-// would be taken apart, each part with a proof of its own.
+// Appends a job with this program, unless the allocation fails. Then the core is dropped in one call: a `?` would drop
+// it part by part, each with a proof of its own.
 fn put_to_work<'a, F: MissFile, M: SystemKeys>(
     jobs: &mut Vec<Job<'a, F, All<M>>>,
     core: Core<'a, F, All<M>>,

@@ -6,8 +6,8 @@ use litmus_test::NamedRequest;
 use receipt_ledger::Receipt;
 use std::alloc::{AllocError, Global};
 
-/// The outcome that an audit found: the reply of each named request, and then each counter's value. None where a
-/// request has no receipt.
+/// Returns the outcome that an audit found: the reply of each named request, and then each counter's value. Returns
+/// none if a request has no receipt.
 pub(crate) fn outcome_of(
     alloc: Global,
     named_requests: &[Option<NamedRequest>],
@@ -27,7 +27,7 @@ pub(crate) fn outcome_of(
     Ok(Some(values))
 }
 
-// The reply of the request's receipt.
+// Returns the reply of the request's receipt.
 fn reply_to(receipts: &[Receipt], named_request: Option<NamedRequest>) -> Option<u64>
     ensures { MatchOption result (LacksReply receipts.now named_request) (HasReply receipts.now named_request) }
 {

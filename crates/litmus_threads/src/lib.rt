@@ -1,19 +1,18 @@
 //! Litmus tests on real threads.
 //!
 //! - [`run_test`] runs all rounds of a test. Each builds a machine (src/machine.rt); a core that has a thread runs the
-//!   thread's program in a thread of its own, beside those that move messages; then the cores are drained and audited.
-//!   The outcome is read off the audit (src/found.rt).
-//! - [`play_test`] does so, and writes the table of the outcomes. What was written, and what the exit status says,
-//!   stands in specs/Run.antt.
-//! - [`trace_test`] plays one round, and writes each slice's log as a trace, put together from the audit's receipts
-//!   (src/log.rt), with comment lines after it (src/notes.rt). What is written stands in specs/Trace.antt.
+//!   thread's program in a thread of its own, in parallel with those that move messages; then the cores are drained and
+//!   audited. The outcome is taken from the audit (src/found.rt).
+//! - [`play_test`] does so, and writes the table of the outcomes. specs/Run.antt specifies what is written, and the exit
+//!   status.
+//! - [`trace_test`] plays one round, and writes each slice's log as a trace, built from the audit's receipts
+//!   (src/log.rt), with comment lines after it (src/notes.rt). specs/Trace.antt specifies what is written.
 //!
-//! No clause says what threads do. So each round sees for itself that every core has asked for just what its thread
-//! says, in each slice in the thread's order (src/made.rt), and doesn't count as played otherwise. An outcome that is
-//! counted is told by a legal log of each slice, in which just the test's requests stand (`IsFoundOn` of
-//! specs/Round.antt).
+//! No contract says what threads do. So each round checks that every core has made exactly its thread's requests, in
+//! each slice in the thread's order (src/made.rt), and doesn't count as played otherwise. An outcome that is counted
+//! comes from a legal log of each slice, with exactly the test's requests (`IsFoundOn` of specs/Round.antt).
 //!
-//! A round takes memory for its machine and for its cores' programs.
+//! A round allocates its machine and its cores' programs.
 #![tactic(auto)]
 
 pub use notes::write_heading;

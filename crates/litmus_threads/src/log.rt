@@ -7,7 +7,7 @@ use receipt_ledger::Receipt;
 use slice_log::Entry;
 use std::alloc::{AllocError, Global};
 
-/// The log of a slice, put together from its receipts by their numbers.
+/// Returns the log of a slice, built from its receipts by their numbers.
 pub(crate) fn log_of(
     alloc: Global,
     receipts: &[Receipt],
@@ -25,7 +25,7 @@ pub(crate) fn log_of(
     Ok(log)
 }
 
-// The receipt of this number.
+// Returns the receipt of this number.
 fn receipt_at(receipts: &[Receipt], slice: SliceId, number: u64) -> Option<&Receipt>
     ensures { MatchOption result (All (λ r. ¬ IsNumbered slice number r) receipts.now)
         (λ receipt. Contains receipts.now receipt.now × IsNumbered slice number receipt.now) }

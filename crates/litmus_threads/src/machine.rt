@@ -16,7 +16,7 @@ use std::marker::Brand;
 use std::sync::Wait;
 use std::thread::Threads;
 
-/// Plays a round of a test on a new machine. Returns what its audit found, or none where the round is stuck.
+/// Plays a round of a test on a new machine. Returns what its audit found, or none if the round is stuck.
 pub(crate) fn play<R: Threads + Wait + Sync>(
     rt: &R,
     test: &LitmusTest<'_>,
@@ -65,12 +65,12 @@ fn on_named<F: MissFile + Send, M: SystemKeys + Send + Sync, R: Threads + Wait +
 {
     let (system, sets) = System::<F, All<M>>::build_checked(plan.alloc, config, blanks)?;
     let played = on_system(rt, &system, sets, test, plan, round);
-    // In one call: dropped where it is it would be taken apart, each part with a proof of its own.
+    // In one call: else it would be dropped part by part, each with a proof of its own.
     drop(system);
     played
 }
 
-// Runs the threads, and sees what came of them.
+// Runs the threads, and checks what they did.
 fn on_system<F: MissFile + Send, M: SystemKeys + Send + Sync, R: Threads + Wait + Sync>(
     rt: &R,
     system: &System<F, All<M>>,
@@ -93,8 +93,8 @@ fn on_system<F: MissFile + Send, M: SystemKeys + Send + Sync, R: Threads + Wait 
     }
 }
 
-// Drains the cores and audits them. What no clause says of threads is seen here: each core has asked for just what its
-// thread says.
+// Drains the cores and audits them. Checks what no contract says of threads: each core has made exactly its thread's
+// requests.
 fn end<F: MissFile, M: SystemKeys, R: Wait>(
     rt: &R,
     system: &System<F, All<M>>,

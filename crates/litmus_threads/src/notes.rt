@@ -11,7 +11,7 @@ use slice_log::Entry;
 use std::fmt;
 use std::fmt::Write;
 
-/// Writes the line before a slice's trace, where the machine has several slices.
+/// Writes the line before a slice's trace, if the machine has several slices.
 pub fn write_heading<W: Write>(config: &Checked, slice: SliceId, out: &mut W) -> fmt::Result
     ensures { OnOk result (WritesInCalls W.write_str_gives out.old (heading_of config.now slice.0) out.new) }
 {
@@ -22,7 +22,7 @@ pub fn write_heading<W: Write>(config: &Checked, slice: SliceId, out: &mut W) ->
     }
 }
 
-/// Writes how many of a log's accesses are whose.
+/// Writes how many of a log's accesses each core has.
 pub(crate) fn write_cores<W: Write>(config: &Checked, log: &[Entry], out: &mut W) -> fmt::Result
     ensures { OnOk result (WritesInCalls W.write_str_gives out.old (text_of_cores config.now.cores log.now) out.new) }
 {
@@ -49,7 +49,7 @@ fn accesses_by(core: CoreId, log: &[Entry]) -> usize
     log.iter().filter(|entry| entry.core == core).count()
 }
 
-/// Writes of each counter of a slice with what value it began, what was added, and its value.
+/// Writes for each counter of a slice its initial value, what was added, and its value.
 pub(crate) fn write_counters<W: Write>(
     config: &Checked,
     slice: SliceId,
@@ -87,7 +87,7 @@ fn write_counter<W: Write>(
     )
 }
 
-// What the accesses add to a word, modulo 2^64.
+// Returns what the accesses add to a word, modulo 2^64.
 fn added_to(word: WordAddr, log: &[Entry]) -> u64
     ensures { result ≡ named log.now word.0 % 2 ^ 64 }
 {
@@ -98,7 +98,7 @@ fn added_to(word: WordAddr, log: &[Entry]) -> u64
     sum
 }
 
-// What an access adds to a word.
+// Returns what an access adds to a word.
 fn added_by(entry: &Entry, word: WordAddr) -> u64
     ensures { result ≡ added_to word.0 entry.now }
 {

@@ -13,7 +13,7 @@ pub(crate) struct Plan {
     pub named_requests: Vec<Option<NamedRequest>>,
     /// The threads that move messages.
     pub movers: Movers,
-    /// What the turns of all rounds are drawn from.
+    /// The seed from which the turns of all rounds are drawn.
     pub seed: u64,
     /// The most turns of a thread, calls of a mover, and rounds of a drain.
     pub limit: u64,

@@ -7,8 +7,8 @@ use rand_core::utils::NextWord;
 use rand_xoshiro::Xoshiro256PlusPlus;
 use std::alloc::{AllocError, Global};
 
-/// The program of a core that does these steps, each after at most three turns. The turns are drawn, a word a step, so
-/// that threads meet in other ways in other rounds.
+/// Returns the program of a core that does these steps, each after at most three turns. The turns are drawn, one word
+/// per step, so that threads interleave differently in different rounds.
 pub(crate) fn program_of(
     alloc: Global,
     steps: &[Action],
@@ -24,7 +24,7 @@ pub(crate) fn program_of(
     Ok(program)
 }
 
-// The step as one of a core's program.
+// Returns the step as one of a core's program.
 fn step_of(step: Action) -> Step
     ensures { result ≡ step_of step }
 {

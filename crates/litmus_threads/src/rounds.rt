@@ -9,7 +9,7 @@ use std::alloc::{AllocError, Global};
 use std::sync::Wait;
 use std::thread::Threads;
 
-/// What a run of a test came to.
+/// The result of a run of a test.
 #[derive(Drop)]
 pub enum Run {
     /// All rounds were played, and had these outcomes.
@@ -18,9 +18,9 @@ pub enum Run {
     Stuck(u64),
 }
 
-/// Plays all rounds of a test, each on a new machine, and tells `progress` of each. A round is stuck where a thread
-/// needed more turns than `limit` or was refused a request, and where its machine isn't quiet at the end. An `Err` says
-/// that memory was wanting, or a thread couldn't be started.
+/// Plays all rounds of a test, each on a new machine, and reports each to `progress`. A round is stuck if a thread
+/// needed more turns than `limit` or was refused a request, or if its machine isn't quiet at the end. Returns `Err` if
+/// memory ran out or a thread couldn't be started.
 pub fn run_test<R: Threads + Wait + Sync, P: Progress>(
     rt: &R,
     alloc: Global,
@@ -43,7 +43,7 @@ pub fn run_test<R: Threads + Wait + Sync, P: Progress>(
     Ok(Run::Whole(outcomes))
 }
 
-// Plays a round. Returns its outcome, or none where the round is stuck.
+// Plays a round. Returns its outcome, or none if the round is stuck.
 fn outcome_in<R: Threads + Wait + Sync>(
     rt: &R,
     test: &LitmusTest<'_>,

@@ -14,8 +14,8 @@ use std::io::Write;
 use std::sync::Wait;
 use std::thread::Threads;
 
-/// Runs a test, and writes its outcomes in this form, or which round was stuck. Returns the exit status: 1 where an
-/// outcome came that must not come, or a round was stuck.
+/// Runs a test, and writes its outcomes in this form, or which round was stuck. Returns the exit status: 1 if a
+/// forbidden outcome occurred, or a round was stuck.
 pub fn play_test<R: Threads + Wait + Sync, W: Write, P: Progress>(
     alloc: Global,
     rt: &R,
@@ -33,7 +33,7 @@ pub fn play_test<R: Threads + Wait + Sync, W: Write, P: Progress>(
     tell(test, &run, form, out)
 }
 
-// Writes what the run came to. Returns the exit status.
+// Writes the result of the run. Returns the exit status.
 fn tell<W: Write>(
     test: &LitmusTest<'_>,
     run: &Run,

@@ -29,9 +29,9 @@ use std::io::Write;
 use std::sync::Wait;
 use std::thread::Threads;
 
-/// Plays the round of this number, whether a run of the test has it or not, and writes the log of each slice as a
-/// trace, with what the audit said of it in comment lines after it; or that the round was stuck. Returns the exit
-/// status, which is 1 where it was. To put the logs together takes time that grows with the square of the accesses.
+/// Plays the round of this number, even if a run of the test doesn't reach it, and writes the log of each slice as a
+/// trace, followed by comment lines with what the audit found; or that the round was stuck. Returns the exit status,
+/// which is 1 if it was. The time to build the logs grows with the square of the accesses.
 pub fn trace_test<R: Threads + Wait + Sync, W: Write>(
     alloc: Global,
     rt: &R,
@@ -113,7 +113,7 @@ fn write_slice<W: Write>(
     ))
 }
 
-// Writes a slice's log as a trace, and after it what the audit said of it.
+// Writes a slice's log as a trace, and after it what the audit found.
 fn write_log<W: fmt::Write>(
     config: &Checked,
     slice: SliceId,

@@ -77,8 +77,8 @@ IsEnd threads lines ends.Over state = IsOver threads state
 IsEnd threads lines ends.Stuck state = ¬ IsOver threads state × (moves_of threads lines state ≡ [])
 IsEnd threads lines ends.GaveUp state = ¬ IsOver threads state × (moves_of threads lines state ≢ [])
 
--- The walk is what the seed draws, with at most `most` moves and messages for these lines, and ends so. If it gave up it
--- has made `most` moves, since some move may come next.
+-- The walk is what the seed draws, with at most `most` moves and messages for these lines, and ends so. If it gave up
+-- it has made `most` moves, since some move may come next.
 pub record IsDrawn (test : LitmusTest) (bound : Bound) (lines : List LineAddr) (seed most : ℕ) (end : End)
     (walk : WalkView) : Type 0 where
   pub start : WalkState

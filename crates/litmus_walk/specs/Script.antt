@@ -40,8 +40,8 @@ abbrev pub status_of : End → ℕ
 status_of ends.Over = 0
 status_of end = 1
 
--- The walk that the seed draws, with at most `most` moves, is printed as a script, after what was written before. Status
--- 0 means that it is over.
+-- The walk that the seed draws, with at most `most` moves, is printed as a script, after what was written before.
+-- Status 0 means that it is over.
 pub record PrintsWalk (test : LitmusTest) (bound : Bound) (seed most status : ℕ) (before after : Option (List ℕ)) :
     Type 0
   where

@@ -2,8 +2,8 @@
 //! answers lines of standard input one by one.
 //!
 //! Answers go to standard output, through one buffer. A fault goes to standard error as one line, after all
-//! answers that came before it. Only a litmus test that runs over threads and programs of which rows are asked for
-//! start any.
+//! answers that came before it. Threads are started only by a litmus test that runs over threads, and for rows of
+//! programs.
 #![tactic(auto)]
 
 use changed_tables::Tables;
@@ -32,15 +32,15 @@ use std::sync::Wait;
 use std::thread::Threads;
 use std::{env, io};
 
-/// What is said of a script to be tested that wants no answer.
+/// The error for a script to be tested that wants no answer.
 const NO_TEST: &str = "no answer is wanted: this is no test";
 
-/// What is said where rows are to be put together as parts, or parts as rows.
+/// The error where rows are to be put together as parts, or parts as rows.
 const NO_JSON: &str = "--json: rows are put together as CSV alone";
 
 const NO_MEAN: &str = "--mean: a walk has outcomes, and no means";
 
-/// What is said of parts after which a walk can't go on.
+/// The error for parts after which a walk can't go on.
 const OTHER_ROUNDS: &str = "its parts are not the first of these rounds";
 
 /// How an answer is wanted.
@@ -66,7 +66,7 @@ fn may_color<R: Env + AllocGlobal>(rt: &R) -> bool {
     }
 }
 
-/// Does what the command line asks for, and answers the exit status.
+/// Does what the command line asks for, and returns the exit status.
 fn run<R>(rt: &R, people: People) -> u8
 where
     R: Env + Files + Input + AllocGlobal + Print + Eprint + Threads + Wait + Sync,
@@ -81,7 +81,7 @@ fn read_words<R: Env + AllocGlobal>(rt: &R) -> io::Result<Vec<String>> {
     env::args(rt).and_then(|words| Ok(words.collect(rt.alloc())?))
 }
 
-// Each function owns one value at most, and lends it to those that it calls: proof time grows with what is live at an exit.
+// Each function owns at most one value, and callees borrow it: proof time grows with what is live at an exit.
 fn run_words<R>(rt: &R, people: People, words: &[String]) -> u8
 where
     R: Env + Files + Input + AllocGlobal + Print + Eprint + Threads + Wait + Sync,
@@ -255,7 +255,7 @@ where
     }
 }
 
-/// The seeds that are given, or else the one.
+/// Returns the seeds that are given, or else the one.
 fn seeds_of<'a>(seed: u64, seeds: Option<&'a str>) -> Result<Seeds, SweepFault<'a>> {
     match seeds {
         Some(text) => Seeds::read(text),
@@ -263,7 +263,7 @@ fn seeds_of<'a>(seed: u64, seeds: Option<&'a str>) -> Result<Seeds, SweepFault<'
     }
 }
 
-/// Says why the command line can't be read.
+/// Returns why the command line can't be read.
 fn unread(error: &io::Error) -> &'static str {
     if error.kind() == io::ErrorKind::InvalidData {
         "cannot read the command line: it isn't UTF-8 (FILE may be -, for standard input)"
@@ -305,7 +305,7 @@ fn report_unread<R: Eprint>(
     }
 }
 
-/// Says why a file can't be read, where errors are explained.
+/// Returns why a file can't be read, where errors are explained.
 fn why_unread(line: CommandLine<'_>, error: &io::Error) -> Option<&'static str> {
     explained_kind(line)?;
     match error.kind() {
@@ -333,7 +333,7 @@ where
     }
 }
 
-/// Says of a run that ended with this status what its output doesn't.
+/// Reports of a run that ended with this status what its output doesn't.
 fn remark<R>(rt: &R, people: People, line: CommandLine<'_>, input: &[u8], status: u8)
 where
     R: AllocGlobal + Eprint,
@@ -376,7 +376,7 @@ fn complain_of_line<R: AllocGlobal + Eprint>(rt: &R, people: People, line: u64, 
     }
 }
 
-/// Complains of a fault, and where errors are explained says what its reader may want to know.
+/// Complains of a fault, and where errors are explained reports what its reader may want to know.
 fn complain_of<R>(rt: &R, people: People, line: CommandLine<'_>, input: &[u8], fault: TextFault)
 where
     R: AllocGlobal + Eprint,
@@ -390,7 +390,7 @@ where
     }
 }
 
-/// The kind of text that a command line reads, where errors are explained.
+/// Returns the kind of text that a command line reads, where errors are explained.
 const fn explained_kind(line: CommandLine<'_>) -> Option<TextKind> {
     match line {
         CommandLine::Script {
@@ -411,12 +411,12 @@ const fn explained_kind(line: CommandLine<'_>) -> Option<TextKind> {
     }
 }
 
-/// Whether answers tell what moved and what is blocked, which have colors.
+/// Whether answers show what moved and what is blocked, which have colors.
 const fn tells_moves(line: CommandLine<'_>) -> bool {
     matches!(explained_kind(line), Some(TextKind::Script))
 }
 
-/// The file of the text that a command line names.
+/// Returns the file of the text that a command line names.
 fn file_of<'a>(line: CommandLine<'a>) -> Option<&'a str> {
     match line {
         CommandLine::Script { file, .. }
@@ -441,7 +441,7 @@ fn file_of<'a>(line: CommandLine<'a>) -> Option<&'a str> {
     }
 }
 
-/// Prints what the command line asks for, also the answers before a fault.
+/// Prints what the command line asks for, including the answers before a fault.
 fn print_answers<R>(
     rt: &R,
     line: CommandLine<'_>,
@@ -623,7 +623,7 @@ where
     }
 }
 
-/// Tells that a walk can't go on after the parts of this file.
+/// Reports that a walk can't go on after the parts of this file.
 fn tell_other_rounds<R: Eprint>(
     rt: &R,
     people: People,
@@ -639,7 +639,7 @@ fn tell_other_rounds<R: Eprint>(
 /// all have: with one job each, every processor would wait for the slowest.
 const JOBS_OF_A_PROCESSOR: usize = 8;
 
-/// As many jobs as are asked for, or else some for each processor.
+/// Returns how many jobs are asked for, or else some for each processor.
 fn jobs_of<R: Threads>(rt: &R, jobs: Option<u64>) -> usize {
     match jobs {
         Some(jobs) => usize::try_from(jobs).unwrap_or(usize::MAX),
@@ -662,7 +662,7 @@ fn write_picture<W: Write>(
     run_svg(alloc, input, line, out)
 }
 
-/// What a long run counts on its way.
+/// Returns what a long run counts on its way.
 const fn counted_by(line: CommandLine<'_>) -> Counted {
     match line {
         CommandLine::Run { .. } => Counted::Steps,
@@ -670,12 +670,12 @@ const fn counted_by(line: CommandLine<'_>) -> Counted {
     }
 }
 
-/// How the counts of programs are printed.
+/// Returns how the counts of programs are printed.
 const fn report_form(json: bool) -> Form {
     if json { Form::Json } else { Form::Table }
 }
 
-/// How the outcomes of a litmus test are printed.
+/// Returns how the outcomes of a litmus test are printed.
 const fn outcome_form(json: bool) -> OutcomeForm {
     if json {
         OutcomeForm::Json
@@ -684,12 +684,12 @@ const fn outcome_form(json: bool) -> OutcomeForm {
     }
 }
 
-/// Which words are judged together.
+/// Returns which words are judged together.
 const fn judged_together(line: bool) -> Extent {
     if line { Extent::Line } else { Extent::Word }
 }
 
-/// How a judgement is printed.
+/// Returns how a judgement is printed.
 const fn judge_form(witness: Option<u64>, json: bool) -> JudgeForm {
     match witness {
         Some(word) => JudgeForm::Witness(word),

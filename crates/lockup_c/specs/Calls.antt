@@ -40,7 +40,7 @@ use Rattle.slice_queues.specs.declared.channel.Pick.{Pick}
 
 -- ---- handles
 
--- the call is made of the handle's machine; where it has none, this, and what it has stays
+-- the call is made on the handle's machine; if it has none, this holds, and what it has stays
 abbrev pub OnMachine : (Simulator → Simulator → Type 0) → Type 0 → Option Held → Option Held → Type 0
 OnMachine Made Nothing (Some (helds.Machine old)) (Some (helds.Machine new)) = Made old new
 OnMachine Made Nothing old new = Nothing × (new ≡ old)
@@ -50,7 +50,7 @@ abbrev pub AtMachine : (Simulator → Type 0) → Type 0 → Option Held → Typ
 AtMachine Seen Nothing (Some (helds.Machine simulator)) = Seen simulator
 AtMachine Seen Nothing held = Nothing
 
--- the numbers name something, or else this
+-- the numbers name something, or else this holds
 abbrev pub IfNamed : {X : Type 0} → Option X → (X → Type 0) → Type 0 → Type 0
 IfNamed None Named Nothing = Nothing
 IfNamed (Some x) Named Nothing = Named x

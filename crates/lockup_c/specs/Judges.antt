@@ -1,4 +1,4 @@
--- What the exports do that judge histories. Where an allocation fails as they are told the histories end: the handle has
+-- What the exports do that judge histories. If an allocation fails as they are given, the histories end: the handle has
 -- nothing.
 use Rattle.std.specs.Prelude.{◌≡◌, ℕ, List, ◌==◌, ◌<◌, ◌&&◌, ◌++◌, ◌∷◌, [], nat_le, nat_lt, length, slice_get}
 use Rattle.std.specs.Prelude.{if◌then◌else◌, Option, None, Some, option_map}
@@ -119,7 +119,7 @@ pub record IsJudgement (numbers : JudgementNumbers) (was is : JudgedHistories) :
   pub histories : is.histories ≡ was.histories
   pub judged : IsJudgedAs numbers is.reasons.items was.histories
 
--- the call is made of the handle's histories; where it has none, this, and what it has stays
+-- the call is made on the handle's histories; if it has none, this holds, and what it has stays
 abbrev pub OnHistories : (JudgedHistories → JudgedHistories → Type 0) → Type 0 → Option Held → Option Held → Type 0
 OnHistories Made Nothing (Some (helds.Histories old)) (Some (helds.Histories new)) = Made old new
 OnHistories Made Nothing old new = Nothing × (new ≡ old)

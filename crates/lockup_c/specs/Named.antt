@@ -60,7 +60,7 @@ pick_named config channel line core from =
     else if channel == 4 then home_named config line
     else None
 
--- a slice, and the channels of which it is to deliver
+-- a slice, and the channels that it is to deliver from
 abbrev pub turn_named : Config → ℕ → ℕ → Option (SliceId × Class)
 turn_named config slice channel =
     if nat_lt slice config.slices then option_map (λ class. (record { 0 = slice }, class)) (class_named channel) else None

@@ -1,7 +1,7 @@
 //! The library that C links: a machine behind a handle (`include/lockup.h`).
 //!
 //! Each export of `lockup.h` takes what the handle has out of it, makes one call, and puts it back. What the call does
-//! stands in specs/Calls.antt, which says the promise of the slice's own call again: of the handle's machine, at what the
+//! is stated in specs/Calls.antt, which restates the slice's own promise: of the handle's machine, at what the
 //! numbers name (specs/Named.antt), with the numbers of the answer (specs/Number.antt, specs/Numbers.antt). A code other
 //! than 0 leaves what the handle has.
 //!

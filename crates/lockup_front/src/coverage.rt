@@ -45,7 +45,7 @@ fn end<R: Eprint>(rt: &R, people: People, printed: Result<(), TextFault>) -> u8 
     }
 }
 
-/// Adds the counts in these files. At Err, what is wrong was said, and this is the exit status.
+/// Adds the counts in these files. At Err, the error was reported, and this is the exit status.
 fn add_files<R>(rt: &R, people: People, files: &[&str], coverage: &mut Coverage) -> Result<(), u8>
 where
     R: Files + Input + AllocGlobal + Eprint,

@@ -6,7 +6,7 @@ use std::io::Read;
 use std::rt::Files;
 use std::{fs, io};
 
-/// The name of a file that stands for standard input.
+/// The file name that means standard input.
 pub const STANDARD_INPUT: &str = "-";
 
 /// Reads a file, or standard input where its name is `-`.
@@ -19,7 +19,7 @@ pub fn read<R: Files + Input + AllocGlobal>(rt: &R, file: &str) -> io::Result<Ve
     Ok(input)
 }
 
-/// The file of this number among those that the command line names.
+/// Returns the file of this number among those that the command line names.
 pub(crate) fn named<'a>(files: &[&'a str], number: Option<usize>) -> Option<&'a str> {
     files.get(number?).copied()
 }

@@ -17,7 +17,7 @@ pub fn head_of(alloc: Global, file: &str, seed: u64) -> Result<Vec<u8>, TextFaul
     }
 }
 
-/// The last part of a path up to its first point, on one line.
+/// Returns the last part of a path up to its first point, on one line.
 fn stem_of(file: &str) -> &str {
     let name = match file.rsplit_once('/') {
         Some((_, name)) => name,
@@ -26,7 +26,7 @@ fn stem_of(file: &str) -> &str {
     before(before(name, '\n'), '.')
 }
 
-/// A text up to a mark: all of it where there is none.
+/// Returns a text up to a mark: all of it if there is none.
 fn before(text: &str, mark: char) -> &str {
     match text.split_once(mark) {
         Some((before, _)) => before,

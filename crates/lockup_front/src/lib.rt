@@ -1,11 +1,11 @@
 //! What the subcommands of the program share, and those that print by themselves.
 //!
-//! - [`People`] are who is at the other end: [`complain`], [`report`] and [`show`] tell them what is wrong, [`Shown`] how
+//! - [`People`] are who is at the other end: [`complain`], [`report`] and [`show`] report errors to them, [`Shown`] how
 //!   far a long run is, and [`Painted`] colors their answers. [`read`] reads a file, or standard input.
 //! - [`print_rows`], [`print_workload`], [`add_coverage`], [`answer_lines`] and [`print_what_breaks`] each do what a
 //!   subcommand asks for; [`read_tables`] reads tables with changed cells, [`known_parts`] those of a walk that goes on,
 //!   [`merged_parts`] puts parts together, and [`print_merged_rows`] rows.
-//! - [`tell_unused`] and [`tell_unforbidden`] say of a text that was run what its output doesn't.
+//! - [`tell_unused`] and [`tell_unforbidden`] report about a text that was run what its output doesn't.
 #![tactic(auto)]
 
 pub use coverage::add_coverage;

@@ -6,8 +6,8 @@ use program_rows::{Rows, RowsFault};
 use std::io::{self, BufWriter, Write};
 use std::rt::Files;
 
-/// Prints the rows that the files have, of which the first has this text, each once; or the means of each combination of
-/// settings. Returns the exit status.
+/// Prints the rows of the files, each once, or the means of each combination of settings. `first` is the text of the
+/// first file. Returns the exit status.
 pub fn print_merged_rows<R>(rt: &R, people: People, files: &[&str], first: &[u8], mean: bool) -> u8
 where
     R: Files + Input + AllocGlobal + Print + Eprint,
@@ -61,7 +61,7 @@ where
     }
 }
 
-/// Says why rows can't be put together, and returns the exit status.
+/// Reports why rows can't be put together, and returns the exit status.
 fn refuse<R: Eprint>(rt: &R, people: People, files: &[&str], fault: RowsFault) -> u8 {
     let (file, other) = (named(files, fault.file()), named(files, fault.other()));
     complain_of_files(rt, people, file, other, fault);

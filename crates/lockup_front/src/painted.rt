@@ -11,7 +11,7 @@ const BLOCKED: &[u8] = b"blocked";
 /// What ends a color.
 const PLAIN: &[u8] = b"\x1b[0m";
 
-/// As long as the longest word that is colored.
+/// The length of the longest word that is colored.
 const LONGEST: usize = 7;
 
 /// A writer that colors the words `moved` and `blocked` between blanks, if it is to.
@@ -48,7 +48,7 @@ impl<W: Write> Painted<W> {
         self.out.write_all(&[byte])
     }
 
-    /// Writes the word that ends here, colored where it is one of these.
+    /// Writes the word that ends here, colored if it is one of these.
     fn end_word(&mut self) -> io::Result<()> {
         let color = color_of(self.word.as_slice());
         self.out.write_all(color)?;
@@ -70,7 +70,7 @@ impl<W: Write> Painted<W> {
     }
 }
 
-/// Returns what begins a word's color: nothing where it has none.
+/// Returns what begins a word's color: nothing if it has none.
 fn color_of(word: &[u8]) -> &'static [u8] {
     if word == MOVED {
         b"\x1b[32m"

@@ -5,8 +5,8 @@ use super::people::{People, complain, report};
 use litmus_rounds::{Found, Merged, Part, PartFault, Parts, sum_of};
 use std::rt::Files;
 
-/// Puts the parts together that the files have, of the litmus test with this text, and tells which seeds no part has. At
-/// Err, what is wrong was said, and this is the exit status.
+/// Puts together the parts that the files have, of the litmus test with this text, and reports the seeds in no part. At
+/// Err, the error was reported, and this is the exit status.
 pub fn merged_parts<R>(rt: &R, people: People, test: &[u8], files: &[&str]) -> Result<Merged, u8>
 where
     R: Files + Input + AllocGlobal + Eprint,
@@ -22,8 +22,8 @@ where
     }
 }
 
-/// The whole parts of the file, if one is named, of the litmus test with this text. At Err, what is wrong was said, and
-/// this is the exit status.
+/// Returns the whole parts of the file, if one is named, of the litmus test with this text. At Err, the error was
+/// reported, and this is the exit status.
 pub fn known_parts<R>(
     rt: &R,
     people: People,
@@ -74,7 +74,7 @@ where
     Ok(())
 }
 
-/// Says why parts can't be put together, and returns the exit status.
+/// Reports why parts can't be put together, and returns the exit status.
 fn refuse<R: Eprint>(rt: &R, people: People, files: &[&str], fault: PartFault) -> u8 {
     let (file, other) = (named(files, fault.file()), named(files, fault.other()));
     complain_of_files(rt, people, file, other, fault);

@@ -1,4 +1,4 @@
-//! Who is at the other end, and what they are told.
+//! Who is at the other end, and what is reported to them.
 
 ghost use Rattle.std.specs.Prelude.{◌<◌};
 
@@ -49,7 +49,7 @@ pub fn report<R: Eprint>(rt: &R, people: People, error: &io::Error, text: impl D
     REFUSED
 }
 
-/// Writes one line to standard error. Where that fails nobody is left to tell.
+/// Writes one line to standard error. If that fails there is no way left to report it.
 pub fn complain<R: Eprint>(rt: &R, people: People, text: impl Display + Drop) {
     let _ = if people.color_errors {
         eprintln!(rt; "\x1b[1;31mlockup:\x1b[0m {text}")

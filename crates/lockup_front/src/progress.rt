@@ -2,8 +2,8 @@
 
 use litmus_test::Progress;
 
-/// How many rounds lie between two times that it is told how far a run has got. Before the first, rounds that take long
-/// are told at 1, 2, 5, 10 and so on.
+/// How many rounds lie between two reports of how far a run has got. Before the first, rounds that take long
+/// are reported at 1, 2, 5, 10 and so on.
 const BETWEEN: u64 = 500;
 
 /// What a long run counts on its way.
@@ -26,7 +26,7 @@ impl Counted {
         }
     }
 
-    /// Whether it is told that so many are done.
+    /// Whether it is reported that `done` are done.
     fn is_told(self, done: u64) -> bool {
         match self {
             Counted::Rounds => {
@@ -37,7 +37,7 @@ impl Counted {
     }
 }
 
-/// Shows on standard error how much of a long run is done, where somebody watches.
+/// Shows on standard error how much of a long run is done, if somebody watches.
 #[derive(Drop)]
 pub struct Shown<'a, R: Eprint> {
     pub rt: &'a R,

@@ -7,7 +7,7 @@ use std::io;
 use std::io::{BufReader, Write};
 use std::rt::Files;
 
-/// What is shown where somebody types, while a line is waited for.
+/// What is shown if somebody types, while a line is waited for.
 const MARK: &str = "> ";
 
 /// The files of this machine.

@@ -13,7 +13,7 @@ use std::io::{self, BufWriter, Write};
 use std::rt::Files;
 use std::thread::Threads;
 
-/// What the command line says of rows beside their settings and seeds.
+/// What the command line gives for rows besides their settings and seeds.
 #[derive(Clone, Copy)]
 pub struct Rows<'a> {
     pub file: &'a str,
@@ -97,7 +97,7 @@ fn read_sweep<'a>(
     Sweep::read(alloc, settings, seeds?, limits)
 }
 
-/// Prints the rows, also those before a fault.
+/// Prints the rows, including those before a fault.
 fn write_rows<R>(
     rt: &R,
     people: People,

@@ -9,7 +9,7 @@ use litmus_command_line::TableFiles;
 use litmus_text::Lines;
 use std::rt::Files;
 
-/// Reads the tables in these files, and takes ours where none is named. At Err, what is wrong was said, and this is the
+/// Reads the tables in these files, and takes ours if none is named. At Err, the error was reported, and this is the
 /// exit status.
 pub fn read_tables<R>(
     rt: &R,
@@ -75,7 +75,7 @@ where
     }
 }
 
-/// Says why a table can't be read, with the row, the column and the words of the cell, and returns the exit status.
+/// Reports why a table can't be read, with the row, the column and the words of the cell, and returns the exit status.
 fn refuse<R: Eprint>(rt: &R, people: People, file: &str, text: &[u8], fault: TableFault) -> u8 {
     match cell_at(text, fault) {
         Some(cell) => {
@@ -99,7 +99,7 @@ struct Cell<'a> {
     words: &'a str,
 }
 
-// The cell of a fault, under the last heading above it.
+// Returns the cell of a fault, under the last heading above it.
 fn cell_at(text: &[u8], fault: TableFault) -> Option<Cell<'_>> {
     let TableFault::At { line, cell, .. } = fault else {
         return None;
@@ -122,7 +122,7 @@ fn cell_at(text: &[u8], fault: TableFault) -> Option<Cell<'_>> {
     None
 }
 
-// The words of a cell of a line, of which the first has number 1.
+// Returns the words of a cell of a line. The first cell has number 1.
 fn word_of(line: &[u8], cell: usize) -> Option<&str> {
     let mut number = 0usize;
     for words in str::from_utf8(line).ok()?.split('|') {

@@ -3,7 +3,7 @@
 use super::people::{People, complain};
 use litmus_text::Statements;
 
-/// Tells on standard error that a test which was run forbids nothing, so that none of its outcomes could be forbidden.
+/// Reports on standard error that a test that was run forbids nothing, so that none of its outcomes could be forbidden.
 pub fn tell_unforbidden<R: Eprint>(rt: &R, people: People, input: &[u8]) {
     if !forbids(input) {
         complain(

@@ -21,8 +21,8 @@ static CORE: [(&[u8], ()); 1] = [(b"core", ())];
 /// Why what bounds waiting accesses changes nothing.
 const SINGLE: &str = "each core has one access under way";
 
-/// Tells on standard error which lines of a text that was run changed nothing: those that bound what waits of a core,
-/// where it has one access under way at a time, and an `outstanding` or a `pace` in whose place another number was given.
+/// Reports on standard error which lines of a text that was run changed nothing: those that bound what waits of a core,
+/// where it has one access under way at a time, and an `outstanding` or a `pace` that another given number replaced.
 pub fn tell_unused<R: Eprint>(rt: &R, people: People, input: &[u8], given: Limits) {
     let is_single = is_single(input, given.outstanding);
     let mut number: u64 = 0;
@@ -52,8 +52,8 @@ pub fn tell_unused<R: Eprint>(rt: &R, people: People, input: &[u8], given: Limit
     }
 }
 
-/// Tells on standard error the same of a text that is swept, and of the settings that vary. If one of these is
-/// `outstanding`, each line may change something, and nothing is told.
+/// Reports on standard error the same of a text that is swept, and of the settings that vary. If one of these is
+/// `outstanding`, each line may change something, and nothing is reported.
 pub fn tell_unused_settings<R: Eprint>(
     rt: &R,
     people: People,
@@ -107,7 +107,7 @@ fn is_single(input: &[u8], given: Option<u64>) -> bool {
     given.or(said(input)).unwrap_or(1) <= 1
 }
 
-// How many accesses of a core may be under way by the text, if it says so.
+// Returns how many accesses of a core may be under way by the text, if it says so.
 fn said(input: &[u8]) -> Option<u64> {
     for line in Lines::of(input) {
         let mut words = Words::of_line(line);

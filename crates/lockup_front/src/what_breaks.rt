@@ -21,8 +21,8 @@ use what_if::{
     Answer, Effort, Line, Promise, Step, Told, Tried, replay, what_if, write_told, write_told_json,
 };
 
-/// What is played on so many cores, and how it is told: the steps of a trace in this file, or what a search among so
-/// many states finds and then rounds, of which the first has this seed.
+/// What is played on `cores` cores, and how it is shown: the steps of a trace in this file, or what a search among
+/// `states` states finds and then rounds, the first of them with this seed.
 #[derive(Clone, Copy)]
 pub struct Play<'a> {
     pub cores: u64,
@@ -112,7 +112,7 @@ fn searched<R: AllocGlobal + Eprint>(
     }
 }
 
-/// Takes the steps of a trace. At Err, what is wrong was said, and this is the exit status.
+/// Takes the steps of a trace. At Err, the error was reported, and this is the exit status.
 fn replayed<R>(rt: &R, people: People, tables: &Tables, cores: u64, file: &str) -> Result<Found, u8>
 where
     R: Files + Input + AllocGlobal + Eprint,
@@ -213,7 +213,7 @@ fn step_of(rule: Rule) -> Step {
     }
 }
 
-// As many cores as are asked for, or as take a step.
+// Returns how many cores are asked for, or how many the steps need, if those are more.
 fn cores_of(steps: &[Step], cores: u64) -> u8 {
     let mut count = u8::try_from(cores).unwrap_or(u8::MAX);
     for step in steps {
@@ -232,7 +232,7 @@ fn cores_of(steps: &[Step], cores: u64) -> u8 {
     count
 }
 
-// The number of the first step that can't happen.
+// Returns the number of the first step that can't happen.
 fn first_that_waits(tables: &Tables, cores: u8, steps: &[Step]) -> Option<usize> {
     let mut line = Line::new(cores);
     for (place, step) in steps.iter().enumerate() {

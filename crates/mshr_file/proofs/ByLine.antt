@@ -95,7 +95,7 @@ count_of-put_first test entry (register ∷ registers) =
     ap (sum_by count) is ∙ (omega (arith, old, new, later)))
     (cases_Bool (register.line.0 == entry.line.0))
 
--- A test passes as many targets of the registers as of the entries.
+-- A test passes the same number of targets of the registers as of the entries.
 pub counts_at : (test : Target → Bool) (entries : List Waiting) →
     count_of test (by_line entries) ≡ count_at test entries
 unfolding by_line

@@ -450,7 +450,7 @@ front_loads_at line entries =
     mapped [] = refl
     mapped (entry ∷ entries) = ap (λ n. if is_load entry.target then 1 + n else 0) (mapped entries)
 
--- There are as many loads in front as the prefix is long.
+-- The number of loads in front is the length of the prefix.
 pub front_count : (targets : List Target) → length (front_loads targets) ≡ prefix_len is_load targets
 front_count targets =
     let most = prefix_len-le-length is_load targets in
@@ -462,7 +462,7 @@ length_at line entries =
     sym (length-map (filter (waits_for line) entries) (λ (e : Waiting). e.target))
     ∙ ap length (sym (waits_at entries line))
 
--- So many were taken from the front.
+-- The first `count` were taken.
 pub first_of : (line : ℕ) (old new : List Waiting) (taken : List Target) (count : ℕ) → TakesEntries old line taken new →
     length taken ≡ count →
     taken ≡ take count (targets_of (by_line old) line)
@@ -474,7 +474,7 @@ pub none_waits : by_line [] ≡ []
 unfolding by_line
 none_waits = refl
 
--- No tag stands twice among the entries that are seen.
+-- No tag occurs twice among the entries that are seen.
 pub each_once : (entries seen : List Waiting) → entries ≡ seen → HasEntryByTag entries → HasEachTagOnce (by_line seen)
 each_once entries seen same by_tag tag =
     let counted = ap (count_at (has_tag tag)) same in

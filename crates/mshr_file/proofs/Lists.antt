@@ -88,7 +88,7 @@ module _ {X : Type 0} where
           omega (arith, here, there, later))
           (cases_Bool (p x))
 
-  -- What a list has is found, and stands where it is found.
+  -- What a list has is found, and is where it is found.
   pub first-inside : (p : X → Bool) (xs : List X) → list_any p xs ≡ true → position_or_len p xs < length xs
   first-inside p [] there = absurd cc
   first-inside p (x ∷ xs) there =

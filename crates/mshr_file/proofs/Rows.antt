@@ -48,7 +48,7 @@ row_for table line kept =
     ∙ any-map row_of (row_serves line) (serves line) (serving_row line) table.registers.items.items
     ∙ has_miss_is table.registers.items.items line
 
--- As many rows are in use as registers are open.
+-- The rows in use are as many as the open registers.
 pub open_rows : (table : RegisterTable) → IsKept table →
     length (filter (λ row. not (is_free_row row)) table.rows.items.items) ≡ length
     (misses_of table.registers.items.items)
@@ -213,7 +213,7 @@ free_kept count table rows registers closed = record {
     all_free (suc count) =
         All-cons (λ row. row.waiting ≤ 64) no_row (replicate count no_row) (omega arith) (all_free count)
 
--- The row of a register tells whether it is closed now, which is counted as 1.
+-- The row of a register says whether it is closed now, which is counted as 1.
 pub closed_one : (row : Row) (register : Register) (free : Bool) → free ≡ is_free_row row → row ≡ row_of register →
     bool_byte free ≡ (if is_waited register.targets then 0 else 1)
 closed_one row register free is for =

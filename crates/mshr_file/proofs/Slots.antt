@@ -61,7 +61,7 @@ load_slots table line kept =
 pub as_many : (table : EntryTable) → length (waiting_in table) ≡ length table.order.items
 as_many table = length-map table.order.items (entry_at table.entries)
 
--- What stands under a tag that no slot has may change.
+-- What is under a tag that no slot has may change.
 elsewhere : (entries : List (Option Waiting)) (slots : List Slot) (tag : ℕ) (held : Option Waiting) →
     list_any (slot_named tag) slots ≡ false →
     map (entry_at (set entries tag held)) slots ≡ map (entry_at entries) slots

@@ -14,7 +14,7 @@ use Rattle.mshr_file.proofs.Lists.{count_by-yes, count_by-no, count_by-filter, c
 use Rattle.mshr_file.proofs.ByLine.{counts_at}
 use Rattle.mshr_file.proofs.Entries.{tags_pushed}
 
--- Entries with tags below a number, no two the same, are at most as many.
+-- Entries with tags below n, no two the same, are at most n.
 pub fits : (n : ℕ) (entries : List Waiting) → ((tag : ℕ) → count_at (has_tag tag) entries ≤ 1) →
     count_at (is_past n) entries ≡ 0 →
     length entries ≤ n

@@ -32,7 +32,7 @@ is_waited _ = true
 abbrev pub waited_lines : List Register → List Local
 waited_lines misses = map (λ register. register.line) misses
 
--- there is a register for the line: somebody waits for it
+-- there is a register for the line: some access waits for it
 abbrev pub has_miss : List Register → ℕ → Bool
 has_miss misses line = is_waited (targets_of misses line)
 
@@ -48,7 +48,7 @@ pub record IsMissFile (misses : List Register) : Type 0 where
   pub single : (line : ℕ) → count_by (is_for line) misses ≤ 1
   pub waited : All (λ register. IsTrue (is_waited register.targets)) misses
 
--- The targets of each line stand in the order of their numbers.
+-- The targets of each line are in the order of their numbers.
 abbrev pub IsInOrder : List Register → Type 0
 IsInOrder misses = (line : ℕ) → IsAscendingBy (λ target. target.seq) (targets_of misses line)
 
@@ -62,7 +62,7 @@ is_free misses tag = count_of (has_tag tag) misses == 0
 
 -- One target has joined those of a line, as the last of them, and all else is as it was. So of any kind of target there
 -- are as many as before, and this one. Targets stay in order where its number is above those of its line, and no tag
--- stands twice where its own was free.
+-- occurs twice where its own was free.
 pub record AddsTarget (old new : List Register) (line : ℕ) (target : Target) : Type 0 where
   pub here : targets_of new line ≡ targets_of old line ++ target ∷ []
   pub others : (other : ℕ) → other ≢ line → targets_of new other ≡ targets_of old other
@@ -78,7 +78,7 @@ pub record TakesTargets (old new : List Register) (line : ℕ) (taken : List Tar
   pub ordered : IsInOrder old → IsInOrder new
   pub once : HasEachTagOnce old → HasEachTagOnce new
 
--- What bounds a file: so many registers of so many target fields (Farkas and Jouppi's explicitly addressed registers),
+-- What bounds a file: its registers and the target fields of each (Farkas and Jouppi's explicitly addressed registers),
 -- or one entry for each tag (their inverted organisation).
 pub data Bound : Type 0 where
   registers : ℕ → ℕ → Bound

@@ -1,4 +1,4 @@
--- A table of miss registers, of which those with a target are open.
+-- A table of miss registers; those with a target are open.
 use Rattle.std.specs.Prelude.{◌≡◌, ℕ, ◌≤◌, ◌==◌, Bool, not, ◌&&◌, List, [], length, filter, map, All}
 use Rattle.std.specs.Box.{boxed_slice_items}
 use Rattle.std.specs.List.{count_by}

@@ -1,4 +1,4 @@
--- Accesses that wait, each with its line, in the order in which they came, and the registers that they would stand in.
+-- Accesses that wait, each with its line, in the order in which they came, and the registers that they would be in.
 use Rattle.std.specs.Prelude.{◌≡◌, ◌≢◌, ◌≤◌, ◌<◌, ◌==◌, ℕ, ◌+◌, Bool, not, nat_lt, if◌then◌else◌, List, [], ◌∷◌, ◌++◌}
 use Rattle.std.specs.Prelude.{length, filter, find, map, Option, None, unwrap_or, slice_index_or}
 use Rattle.std.specs.List.{count_by, list_any}
@@ -59,7 +59,7 @@ pub record TakesEntries (old : List Waiting) (line : ℕ) (taken : List Target) 
   pub counts : (test : Target → Bool) → count_at test old ≡ count_at test new + count_by test taken
   pub lines : length (by_line old) ≡ length (by_line new) + (if list_any (waits_for line) new then 0 else 1)
 
--- what stands for an entry that is not there
+-- used for an entry that is not there
 abbrev pub no_waiting : Waiting
 no_waiting = record { target = no_target; line = record { 0 = 0 } }
 
@@ -78,7 +78,7 @@ entry_at entries slot = unwrap_or (slice_index_or entries slot.tag None) no_wait
 abbrev pub waiting_in : EntryTable → List Waiting
 waiting_in table = map (entry_at table.entries) table.order.items
 
--- There is a place for each of 64 tags, each slot is that of its entry, and under each tag stands the entry that has
+-- There is a place for each of 64 tags, each slot is that of its entry, and under each tag is the entry that has
 -- it.
 pub record IsEntryTable (table : EntryTable) : Type 0 where
   pub size : length table.entries ≡ 64

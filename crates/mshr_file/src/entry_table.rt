@@ -166,7 +166,7 @@ impl EntryTable {
         take_entry(self, line)
     }
 
-    /// Takes out the first entries for the line, as many as `count`.
+    /// Takes out the first `count` entries for the line.
     pub fn take(&mut self, line: Local, count: usize) -> ArrayVec<Target, 64>
         requires kept { IsEntryTable self.old }
         requires some { has_miss (by_line (waiting_in self.old)) line.0 ≡ true }

@@ -1,10 +1,10 @@
 //! Miss registers: which lines a cache waits for, and which accesses wait for each of them.
 //!
-//! A lockup-free cache (Kroft 1981) goes on while misses are outstanding, since each of them stands in a register. A
+//! A lockup-free cache (Kroft 1981) continues while misses are outstanding, since each has a register. A
 //! first miss to a line opens one, and further accesses to the line join it as targets.
 //!
 //! - [`MissFile`] is what a cache needs of its registers. Its contracts see a list of them, each a line with its
-//!   targets in order, in which no line stands twice and each has a target (`IsMissFile` of specs/Miss.antt).
+//!   targets in order, in which no line occurs twice and each has a target (`IsMissFile` of specs/Miss.antt).
 //! - [`MissFile::lines`] lists the lines that are waited for.
 //! - [`MissFile::admit`] says what a request for a line is to do: join its register, open one, or wait for room.
 //! - [`MissFile::open`] and [`MissFile::join`] add a target to one line at the end (`AddsTarget`),
@@ -21,13 +21,13 @@
 //!
 //! [`MissKind`] names one of them, and [`EitherFile`] is one of either kind.
 //!
-//! Only [`MissFile::make`] and [`MissFile::lines`] take memory: registers and their rows are in boxed slices, which
-//! have no call that lets them grow, and entries lie in the value. A call searches a row of 16 bytes for each register
-//! of its file, at most 32, or for each entry that is in use, at most 64. A target is taken where it stands, and no
-//! other target moves; only [`MissFile::targets`], [`MissFile::take_loads`] and [`MissFile::close`] hand out a list,
+//! Only [`MissFile::make`], [`MissFile::try_clone`] and [`MissFile::lines`] allocate: registers and their rows are in boxed slices, which
+//! have no call that lets them grow, and entries are in the value. A call searches a row of 16 bytes for each register
+//! of its file, at most 32, or for each entry that is in use, at most 64. A target is taken where it is, and no
+//! other target moves; only [`MissFile::targets`], [`MissFile::take_loads`] and [`MissFile::close`] return a list,
 //! 3 KB by value.
 //!
-//! What follows for callers from `AddsTarget` and `TakesTargets` stands in proofs/Changes.antt.
+//! What follows for callers from `AddsTarget` and `TakesTargets` is in proofs/Changes.antt.
 #![tactic(auto)]
 
 pub use admission::Admission;

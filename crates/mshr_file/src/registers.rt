@@ -87,7 +87,7 @@ impl Row {
     }
 }
 
-/// Registers, and a row for each of them. Registers are large, and lie far apart: a search looks at the rows alone, and
+/// Registers, and a row for each of them. Registers are large, and are far apart: a search looks at the rows alone, and
 /// at none while no register is open.
 #[derive(Drop)]
 pub struct RegisterTable {
@@ -98,7 +98,7 @@ pub struct RegisterTable {
 }
 
 impl RegisterTable {
-    /// Takes the memory for a table of free registers.
+    /// Allocates a table of free registers.
     pub fn make(alloc: Global, count: usize) -> Result<Self, AllocError>
         ensures kept { IfOk result IsKept }
         ensures free { IfOk result (λ table. registers_in table ≡ replicate count no_register) }
@@ -297,7 +297,7 @@ impl RegisterTable {
         all
     }
 
-    /// Where the line's row stands, if it has one.
+    /// Returns where the line's row is, if it has one.
     fn search(&self, line: Local) -> Option<usize>
         requires { IsKept self.now }
         ensures { result ≡ position (row_serves line.0) (boxed_slice_items self.now.rows) }

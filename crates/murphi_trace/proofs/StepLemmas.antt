@@ -15,7 +15,7 @@ pub text_more : (before : List Rule) (step : Option Step) (more : List Step)
 text_more before None more = refl
 text_more before (Some step) more = refl
 
--- a line that tells of a rule is a step
+-- a line that reports a rule is a step
 pub told_step : (line : List ℕ) (fired : List ℕ × List ℕ) (rule : Rule) → Some fired ≡ fired_by line
     → Some rule ≡ rule_of fired → step_by line ≡ Some (fired, rule)
 told_step line fired rule told is =

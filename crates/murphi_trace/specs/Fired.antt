@@ -1,4 +1,4 @@
--- What the lines of a trace tell of rules that fired.
+-- What the lines of a trace report of rules that fired.
 use Rattle.std.specs.Prelude.{ℕ, ◌+◌, ◌-◌, List, Option, None, Some, codes, drop, length, take, option_and_then}
 use Rattle.std.specs.Prelude.{option_map, if◌then◌else◌}
 use Rattle.std.specs.Borrow.{Bor}
@@ -20,7 +20,7 @@ before mark text =
 unfoldable pub parts_around : List ℕ → List ℕ → Option (List ℕ × List ℕ)
 parts_around mark text = option_map (λ k. (take k text, drop (k + length mark) text)) (first_of (matches text mark 0))
 
--- A line `Rule "NAME"CORES fired.` tells that a rule fired: its name, and for which cores, as `, c: 0, f: 1`.
+-- A line `Rule "NAME"CORES fired.` reports that a rule fired: its name, and for which cores, as `, c: 0, f: 1`.
 abbrev pub fired_by : List ℕ → Option (List ℕ × List ℕ)
 fired_by line =
     option_and_then

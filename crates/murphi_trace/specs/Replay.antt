@@ -5,7 +5,7 @@ use Rattle.murphi_trace.specs.declared.rule.Rule.{Rule}
 use Rattle.murphi_trace.specs.Rule.{last_core}
 use Rattle.murphi_trace.specs.Script.{Step, accesses_of, is_access_of, names_data_e, text_of_step}
 
--- the tag of the last of so many accesses, if there was one
+-- the tag of the last of that many accesses, if there was one
 abbrev pub last_tag : ℕ → Option ℕ
 last_tag zero = None
 last_tag (suc earlier) = Some (earlier % 64)
@@ -18,7 +18,7 @@ AreTags tags before = (core : ℕ) → core < 10 → get_or tags core None ≡ l
 abbrev pub IsAccess : ℕ → Rule → Type 0
 IsAccess core rule = (number : ℕ) → is_access_of number rule ≡ (core == number)
 
--- what one line comes to: its step's text and rule, if it tells of one
+-- what one line comes to: its step's text and rule, if it reports one
 abbrev pub text_of_told : List Rule → Option Step → List ℕ
 text_of_told before None = []
 text_of_told before (Some step) = text_of_step before step

@@ -1,4 +1,4 @@
--- Which rule of the model a name is that of.
+-- Which rule of the model has a given name.
 use Rattle.std.specs.Prelude.{ℕ, ◌-◌, max, List, [], ◌∷◌, Option, None, Some, codes, option_and_then, option_map}
 use Rattle.std.specs.Prelude.{slice_index, if◌then◌else◌}
 use Rattle.std.specs.Char.{is_ascii_digit}

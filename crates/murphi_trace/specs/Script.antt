@@ -24,7 +24,7 @@ use Rattle.murphi_trace.specs.Rule.{last_core, rule_of, the_line}
 
 -- ---- the steps of a run
 
--- a step: what a line tells of a rule by which something happens, and the rule
+-- a step: what a line reports of a rule by which something happens, and the rule
 abbrev pub Step : Type 0
 Step = (List ℕ × List ℕ) × Rule
 
@@ -37,7 +37,7 @@ with_rule fired = option_map (λ rule. (fired, rule)) (rule_of fired)
 abbrev pub step_by : List ℕ → Option Step
 step_by line = option_and_then with_rule (fired_by line)
 
--- the steps that lines tell of, in order
+-- the steps that lines report, in order
 abbrev pub steps_in : List (List ℕ) → List Step
 steps_in lines = filter_map step_by lines
 
@@ -48,7 +48,7 @@ abbrev pub greatest_core : List Step → ℕ
 greatest_core [] = 0
 greatest_core (step ∷ more) = max (last_core step.1) (greatest_core more)
 
--- whether the exclusive state's message comes up
+-- whether the exclusive state's message occurs
 abbrev pub names_data_e : List ℕ × List ℕ → Bool
 names_data_e fired = is_some (parts_around (codes "Data-E") fired.0)
 
@@ -56,7 +56,7 @@ abbrev pub exclusive_line : Bool → List ConfigLine
 exclusive_line true = config_lines.Exclusive true ∷ []
 exclusive_line false = []
 
--- so many cores, and the exclusive state where it is needed
+-- `cores` cores, and the exclusive state where it is needed
 abbrev pub machine_lines : ℕ → Bool → List ConfigLine
 machine_lines cores exclusive = config_lines.Count counts.Cores cores ∷ exclusive_line exclusive
 
@@ -77,7 +77,7 @@ abbrev pub hand_before : ℕ → CoreId → List Command
 hand_before zero core = []
 hand_before (suc earlier) core = commands.Hand core (record { 0 = 0 }) ∷ []
 
--- an access of a core that made so many before: its tags are used in turn, and there are 64
+-- an access of a core that made `accesses` before: its tags are used in turn, and there are 64
 abbrev pub access_of : ℕ → CoreId → Op → List Command
 access_of accesses core op =
     hand_before accesses core
@@ -107,14 +107,14 @@ abbrev pub text_of_steps : List Rule → List Step → List ℕ
 text_of_steps before [] = []
 text_of_steps before (step ∷ more) = text_of_step before step ++ text_of_steps (before ++ step.1 ∷ []) more
 
--- the script of the run that a trace tells of
+-- the script of the run that a trace reports
 abbrev pub script_of : List ℕ → List ℕ
 script_of trace =
     text_of_lines (machine_lines (greatest_core (steps_in (lines trace)) + 1)
     (list_any names_data_e (fired_in (lines trace))))
     ++ text_of_steps [] (steps_in (lines trace))
 
--- some line of the text tells of a rule that fired
+-- some line of the text reports a rule that fired
 abbrev pub is_trace : List ℕ → Bool
 is_trace text = list_any (λ line. is_some (fired_by line)) (lines text)
 

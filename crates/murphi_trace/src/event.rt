@@ -32,7 +32,7 @@ static EVENTS: [(&[u8], Event); 10] = [
 ];
 
 impl Event {
-    /// What the copy meets, by the name `STATE, EVENT: what is done` of a rule.
+    /// Returns what the copy meets, by the name `STATE, EVENT: what is done` of a rule.
     pub(crate) fn of(name: &[u8]) -> Option<Event>
         ensures { result ≡ event_of name.now }
     {
@@ -52,7 +52,7 @@ impl Event {
     }
 }
 
-/// What comes before the first comma.
+/// Returns what comes before the first comma.
 fn first_part(text: &[u8]) -> &[u8]
     ensures { result.now ≡ first_part text.now }
 {

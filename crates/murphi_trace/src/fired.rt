@@ -1,10 +1,10 @@
-//! What the lines of a trace tell.
+//! What the lines of a trace report.
 ghost use Rattle.std.specs.Prelude.{◌≡◌, codes, option_and_then, option_map};
 ghost use Rattle.murphi_trace.specs.Fired.{before, behind, fired_by, name_and_cores, pair_of, parts_around};
 
 use bstr::ByteSlice;
 
-/// What a line tells of a rule that fired.
+/// What a line reports of a rule that fired.
 #[derive(Clone, Copy)]
 pub(crate) struct Fired<'a> {
     pub(crate) name: &'a [u8],
@@ -27,7 +27,7 @@ impl<'a> Fired<'a> {
     }
 }
 
-/// What a line that tells of a rule which fired has around it.
+/// Returns what a line that reports a fired rule has between its fixed first and last words.
 fn between(line: &[u8]) -> Option<&[u8]>
     ensures { option_map (λ told. told.now) result
         ≡ option_and_then (before (codes " fired.")) (behind (codes "Rule \"") line.now) }
@@ -38,21 +38,21 @@ fn between(line: &[u8]) -> Option<&[u8]>
     in_front(told, b" fired.")
 }
 
-/// What follows a mark, of a text that begins with it.
+/// Returns what follows a mark, of a text that begins with it.
 pub(crate) fn behind<'a>(text: &'a [u8], mark: &[u8]) -> Option<&'a [u8]>
     ensures { option_map (λ rest. rest.now) result ≡ behind mark.now text.now }
 {
     text.strip_prefix(mark)
 }
 
-/// What stands before a mark, of a text that ends with it.
+/// Returns what is before a mark, of a text that ends with it.
 fn in_front<'a>(text: &'a [u8], mark: &[u8]) -> Option<&'a [u8]>
     ensures { option_map (λ front. front.now) result ≡ before mark.now text.now }
 {
     text.strip_suffix(mark)
 }
 
-/// What stands before a mark's first place in a text, and after it.
+/// Returns what is before a mark's first place in a text, and after it.
 pub(crate) fn parted<'a>(text: &'a [u8], mark: &[u8]) -> Option<(&'a [u8], &'a [u8])>
     ensures { option_map pair_of result ≡ parts_around mark.now text.now }
 {

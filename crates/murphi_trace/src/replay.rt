@@ -32,9 +32,9 @@ const WORD: WordAddr = WordAddr(0);
 
 const SLICE: SliceId = SliceId(0);
 
-/// Writes the run that a trace tells of as a script: for each rule its name as a comment, and the commands that do the
-/// same. The machine has the cores that take part, and the exclusive state where a message of it comes up. All else of
-/// a trace is passed over, but a text in which nothing else stands is no trace. Returns the exit status.
+/// Writes the run that a trace reports as a script: for each rule its name as a comment, and the commands that do the
+/// same. The machine has the cores that take part, and the exclusive state if a message of it occurs. All else of
+/// a trace is passed over, but a text with nothing else in it is no trace. Returns the exit status.
 pub fn run_trace<W: Write>(trace: &[u8], out: &mut W) -> Result<u8, TextFault>
     ensures status { IfOk result (λ status. status ≡ 0) }
     ensures trace { OnOk result (is_trace trace.now ≡ true) }
@@ -50,7 +50,7 @@ pub fn run_trace<W: Write>(trace: &[u8], out: &mut W) -> Result<u8, TextFault>
     }
 }
 
-/// The rule that a line of a trace tells of, if it tells of one by which something happens.
+/// Returns the rule that a line of a trace reports, if it reports one by which something happens.
 pub fn rule_told_by(line: &[u8]) -> Option<Rule>
     ensures { result ≡ option_map rule_in (step_by line.now) }
 {
@@ -60,7 +60,7 @@ pub fn rule_told_by(line: &[u8]) -> Option<Rule>
     Rule::of(fired)
 }
 
-/// Whether some line tells of a rule that fired.
+/// Whether some line reports a rule that fired.
 fn is_trace(trace: &[u8]) -> bool
     ensures { result ≡ is_trace trace.now }
 {
@@ -81,7 +81,7 @@ fn write_script<W: Write>(trace: &[u8], out: &mut W) -> fmt::Result
     write_steps(trace, out)
 }
 
-/// The greatest number of a core that takes part.
+/// Returns the greatest number of a core that takes part.
 fn greatest_core(trace: &[u8]) -> u8
     ensures value { result ≡ greatest_core (steps_in (lines trace.now)) }
     ensures small { result < 10 }
@@ -142,7 +142,7 @@ fn write_steps<W: Write>(trace: &[u8], out: &mut W) -> fmt::Result
     Ok(())
 }
 
-/// Writes the step that a line tells of, if it tells of one. Each core's last access had its tag.
+/// Writes the step that a line reports, if it reports one. Each core's last access had its tag.
 fn write_line<W: Write>(line: &[u8], tags: &mut [Option<u8>; CORES], out: &mut W) -> fmt::Result
     ensures text { (before : List Rule) → AreTags tags.old before → OnOk result
         (Appends (W.contents out.old) (W.contents out.new) (text_of_told before (step_by line.now))) }

@@ -1,4 +1,4 @@
-//! The rules that a trace tells of.
+//! The rules that a trace reports.
 ghost use Rattle.std.specs.Prelude.{◌≡◌, ◌<◌, IfSome};
 ghost use Rattle.murphi_trace.specs.declared.event.Event.{Event};
 ghost use Rattle.murphi_trace.specs.declared.rule.Rule.{Rule};
@@ -11,7 +11,7 @@ use super::fired::{Fired, behind, parted};
 use address_map::{CoreId, LineAddr};
 use slice_queues::Pick;
 
-/// The line of the model, of which there is one.
+/// The model's only line.
 pub(crate) const LINE: LineAddr = LineAddr(0);
 
 /// What a rule of the model does.
@@ -24,7 +24,7 @@ pub enum Rule {
 }
 
 impl Rule {
-    /// The rule of this name, for these cores, if it is one by which something happens.
+    /// Returns the rule of this name, for these cores, if it is one by which something happens.
     pub(crate) fn of(fired: Fired<'_>) -> Option<Rule>
         ensures value { result ≡ rule_of (name_and_cores fired.entry) }
         ensures small { IfSome result (λ rule. last_core rule < 10) }
@@ -35,7 +35,7 @@ impl Rule {
         }
     }
 
-    /// The greatest number of a core that takes part.
+    /// Returns the greatest number of a core that takes part.
     pub(crate) fn last_core(self) -> u8
         ensures { result ≡ last_core self }
     {
@@ -46,7 +46,7 @@ impl Rule {
     }
 }
 
-/// The greatest number of a core that a channel names.
+/// Returns the greatest number of a core that a channel names.
 fn last_core_of(pick: Pick) -> u8
     ensures { result ≡ last_core (Rule.Deliver pick) }
 {
@@ -132,7 +132,7 @@ fn acknowledged(to: CoreId, cores: &[u8]) -> Option<Rule>
     }))
 }
 
-/// The core whose number follows a mark.
+/// Returns the core whose number follows a mark.
 fn core_behind(text: &[u8], mark: &[u8]) -> Option<CoreId>
     ensures value { result ≡ core_behind mark.now text.now }
     ensures small { IfSome result (λ core. core.0 < 10) }
@@ -143,7 +143,7 @@ fn core_behind(text: &[u8], mark: &[u8]) -> Option<CoreId>
     core_of(behind)
 }
 
-/// The core whose number, of one digit, a text begins with.
+/// Returns the core whose number, of one digit, a text begins with.
 fn core_of(text: &[u8]) -> Option<CoreId>
     ensures value { result ≡ core_of text.now }
     ensures small { IfSome result (λ core. core.0 < 10) }

@@ -16,7 +16,7 @@ pub true_from_not : (b : Bool) → false ≡ not b → b ≡ true
 true_from_not true e = refl
 true_from_not false e = cc
 
--- what a test of two rows' counts has told
+-- what a test of two rows' counts has shown
 pub same_counts : (xs ys : List (Option ℕ)) → false ≡ not (pointwise (option_eq nat_eq) xs ys) → xs ≡ ys
 same_counts xs ys e =
     (slice_eq-Decides count_Decides xs ys (pointwise (option_eq nat_eq) xs ys) refl).0 (true_from_not (pointwise (option_eq nat_eq) xs ys) e)

@@ -1,4 +1,4 @@
--- Numbers from each of which the same number is taken.
+-- Numbers that have the same number subtracted from each.
 use Rattle.std.proofs.Common.{◌≡◌, ℕ, ◌+◌, ◌*◌, ◌-◌, ◌≤◌, List, [], ◌∷◌, All, ap, length, sum, sum_by, arith}
 use Rattle.std.proofs.lemmas.List.Elements.{All-head, All-tail}
 use Rattle.std.proofs.lemmas.List.Sums.{sum_by-cons}

@@ -58,7 +58,7 @@ pub enum RowsFault {
 }
 
 impl RowsFault {
-    /// The file that it is in.
+    /// Returns the file that it is in.
     pub const fn file(&self) -> Option<usize> {
         match self {
             RowsFault::NoRows { file }
@@ -72,7 +72,7 @@ impl RowsFault {
         }
     }
 
-    /// The other file that it speaks of: its name follows the reason.
+    /// Returns the other file that it is about: its name follows the reason.
     pub const fn other(&self) -> Option<usize> {
         match self {
             RowsFault::OtherColumns { other, .. } | RowsFault::OtherFigures { other, .. } => {
@@ -82,7 +82,7 @@ impl RowsFault {
         }
     }
 
-    /// The exit status of a program that stops at this fault.
+    /// Returns the exit status of a program that stops at this fault.
     pub const fn status(&self) -> u8 {
         match self {
             RowsFault::NoMemory => 3,

@@ -8,11 +8,11 @@ use memchr::memchr;
 #[derive(Clone, Copy)]
 pub(crate) struct Split<'a> {
     pub field: &'a [u8],
-    /// What follows the comma after the field. Nothing does where the line ends with it.
+    /// What follows the comma after the field: nothing if the line ends with it.
     pub behind: Option<&'a [u8]>,
 }
 
-/// The first field of a line, its quotes included, unless quotes stand in it that don't enclose it.
+/// Returns the first field of a line with its quotes, unless it has quotes that don't enclose it.
 pub(crate) fn first_field<'a>(line: &'a [u8]) -> Option<Split<'a>>
     ensures { IfSome result (IsSplit line.now) }
 {
@@ -43,7 +43,7 @@ fn field_len(line: &[u8]) -> Option<usize>
     Some(len)
 }
 
-// The length up to the quote that closes the field: the first that is no half of a pair.
+// Returns the length up to the quote that closes the field: the first that is no half of a pair.
 fn quoted_len(line: &[u8]) -> Option<usize>
     ensures { IfSome result (λ len. len ≤ length line.now) }
 {
@@ -58,7 +58,7 @@ fn quoted_len(line: &[u8]) -> Option<usize>
     if is_open { None } else { Some(line.len()) }
 }
 
-/// A field without the quotes around it.
+/// Returns a field without the quotes around it.
 pub(crate) fn unquoted<'a>(field: &'a [u8]) -> &'a [u8] {
     match field {
         [b'"', inner @ .., b'"'] => inner,

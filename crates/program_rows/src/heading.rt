@@ -15,7 +15,7 @@ pub(crate) struct Heading {
     pub columns: Columns,
 }
 
-/// How many columns stand before `seed`, and how many after it.
+/// How many columns come before `seed`, and how many after it.
 #[derive(Clone, Copy, Debug)]
 pub(crate) struct Columns {
     pub settings: usize,

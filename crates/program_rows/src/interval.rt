@@ -13,7 +13,7 @@ pub(crate) struct Figures {
     pub half_width: Option<u128>,
 }
 
-/// The figures of numbers, unless their squares don't fit 128 bits.
+/// Returns the figures of numbers, unless their squares don't fit 128 bits.
 pub(crate) fn figures_of(numbers: &[u64]) -> Option<Figures>
     requires { 0 < length numbers.now }
     ensures { IfSome result (AreFigures numbers.now) }
@@ -33,7 +33,7 @@ pub(crate) fn figures_of(numbers: &[u64]) -> Option<Figures>
     })
 }
 
-// The mean, rounded to the nearest number of thousandths, half up.
+// Returns the mean, rounded to the nearest number of thousandths, half up.
 fn mean_of(summary: &Summary) -> Option<u128>
     requires { 0 < summary.now.count }
     ensures { IfSome result (IsNearest summary.now.sum summary.now.count) }
@@ -54,7 +54,7 @@ fn half_width_of(summary: &Summary, quantile: u64) -> Option<u128>
     Some(root_up(quotient_up(factor, summary.spread, divisor)?))
 }
 
-// A product over a divisor, rounded up. It is divided before it is multiplied, so that more products fit.
+// Returns a product over a divisor, rounded up. It is divided before it is multiplied, so that more products fit.
 fn quotient_up(factor: u128, number: u128, divisor: u128) -> Option<u128>
     requires { 0 < divisor }
     ensures { IfSome result (IsRoundedUp (factor * number) divisor) }
@@ -64,7 +64,7 @@ fn quotient_up(factor: u128, number: u128, divisor: u128) -> Option<u128>
     whole.checked_add(part)
 }
 
-// A square root, rounded up.
+// Returns a square root, rounded up.
 fn root_up(square: u128) -> u128
     ensures { IsLeastRoot square result }
 {

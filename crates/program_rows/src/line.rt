@@ -1,4 +1,4 @@
-//! What a line of rows says.
+//! What a line of rows holds.
 
 use super::fault::RowsFault;
 use super::field::{first_field, unquoted};
@@ -29,7 +29,7 @@ impl Place {
         }
     }
 
-    // So many columns stand before the one that has no number.
+    // Returns the fault of a field that is no number, after `before` columns.
     fn no_number(self, before: usize) -> RowsFault {
         RowsFault::NoNumber {
             file: self.file,
@@ -39,7 +39,7 @@ impl Place {
     }
 }
 
-/// The first line of a text, without its end, and what is after it, unless the text ends within the line.
+/// Returns the first line of a text, without its end, and what is after it, unless the text ends within the line.
 pub(crate) fn whole_line<'a>(text: &'a [u8]) -> Option<(&'a [u8], &'a [u8])> {
     let (line, rest) = text.split_at(memchr(b'\n', text)?);
     let (_, behind) = rest.split_first()?;
@@ -49,7 +49,7 @@ pub(crate) fn whole_line<'a>(text: &'a [u8]) -> Option<(&'a [u8], &'a [u8])> {
     }
 }
 
-/// What a row says.
+/// What a row holds.
 #[derive(Drop)]
 pub(crate) struct Line<'a> {
     /// Its settings as they are written, with the comma after each.
@@ -81,7 +81,7 @@ pub(crate) fn read_line<'a>(
     })
 }
 
-// A line after so many fields, and what is before it.
+// Splits a line after its first `settings` fields.
 fn split_settings<'a>(settings: usize, line: &'a [u8]) -> Option<(&'a [u8], &'a [u8])> {
     let mut rest = line;
     for _ in 0..settings {

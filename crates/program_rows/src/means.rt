@@ -36,7 +36,7 @@ impl Rows {
     }
 }
 
-// The columns of means.
+// Adds the columns of means.
 fn push_heading(line: &mut Vec<u8>, heading: &Heading) -> Result<(), AllocError> {
     let columns = heading.columns;
     let mut rest = Some(heading.text.as_slice());
@@ -83,7 +83,7 @@ fn push_interval_name(line: &mut Vec<u8>, name: &[u8]) -> Result<(), AllocError>
     }
 }
 
-// The means of a combination's counts, and the end of their line.
+// Adds the means of a combination's counts, and the end of their line.
 fn push_means(
     alloc: Global,
     line: &mut Vec<u8>,
@@ -103,7 +103,7 @@ fn push_means(
     Ok(())
 }
 
-// The counts of a column, of those rows that have one.
+// Returns the counts of a column, of those rows that have one.
 fn numbers_of(
     alloc: Global,
     combination: &Combination,
@@ -119,7 +119,7 @@ fn numbers_of(
 }
 
 impl Row {
-    // The count of this column, if there is one.
+    // Returns the count of this column, if there is one.
     fn count(&self, column: usize) -> Option<u64>
         ensures { result ≡ count_in column self.now }
     {
@@ -127,7 +127,7 @@ impl Row {
     }
 }
 
-// The mean and half the width of the interval. False: their squares don't fit.
+// Adds the mean and half the width of the interval. Returns false if their squares don't fit.
 fn push_figures(line: &mut Vec<u8>, numbers: &[u64]) -> Result<bool, AllocError> {
     if numbers.is_empty() {
         line.extend_from_slice(b",,")?;
@@ -152,7 +152,7 @@ fn push_thousandths(line: &mut Vec<u8>, thousandths: u128) -> Result<(), AllocEr
     line.extend_from_slice(&[b'.', digit(rest / 100), digit(rest / 10), digit(rest)])
 }
 
-// The last digit of a number.
+// Returns the last digit of a number.
 fn digit(number: u16) -> u8 {
     b'0' + (number % 10) as u8
 }

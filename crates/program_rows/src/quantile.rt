@@ -10,7 +10,7 @@ static QUANTILES: [u16; 30] = [
     2_052, 2_049, 2_046, 2_043,
 ];
 
-/// The 97.5 % quantile of Student's distribution with so many degrees of freedom, in thousandths, and no less: beyond 30
+/// The 97.5 % quantile of Student's distribution for `degrees` degrees of freedom, in thousandths, or more: beyond 30
 /// it is that of 30, 40, 60 or 120 degrees, whichever is the next lower.
 pub(crate) fn quantile(degrees: u64) -> u64
     requires { 0 < degrees }

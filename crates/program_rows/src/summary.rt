@@ -12,7 +12,7 @@ pub(crate) struct Summary {
     pub spread: u128,
 }
 
-/// The sums of numbers, unless their squares don't fit 128 bits. So that they stay small, the least number is taken from
+/// Returns the sums of numbers, unless their squares don't fit 128 bits. To keep them small, the least is taken from
 /// each first, which leaves the spread as it is.
 pub(crate) fn summarize(numbers: &[u64]) -> Option<Summary>
     ensures { IfSome result (IsSummary numbers.now) }
@@ -29,7 +29,7 @@ pub(crate) fn summarize(numbers: &[u64]) -> Option<Summary>
     })
 }
 
-// The least of numbers, or 0 of none.
+// Returns the least of numbers, or 0 of none.
 fn least_of(numbers: &[u64]) -> u64
     ensures { All (λ number. result ≤ number) numbers.now }
 {

@@ -51,7 +51,7 @@ sends-nothing At old new ring channels = record {
 
 module _ (old : PartsView) (core : CoreId) (request : Request) (answer : Result Issue Refused) (new : PartsView)
     (known : core.0 < length old.view.caches) (made : AfterIssue old core request answer new) where
-  -- the places of the line that was asked for, and of the one that left last
+  -- the places of the line that was asked for, and of the one that was evicted last
   abbrev pub SentAt : ℕ → Type 0
   SentAt l =
       ((line_of request.word).0 ≡ (line_at old.view.lines (record { 0 = l })).0)

@@ -47,7 +47,7 @@ idle_line_lists v line (Some found) l same idle =
 
 -- ---- a ring
 
--- nothing comes of items of which none comes to something
+-- nothing comes of items that each come to nothing
 none_of_these : {X Y : Type 0} (f : X → List Y) (xs : List X) (n : ℕ)
     → ((i : ℕ) (x : X) → i < n → slice_get xs i ≡ Some x → f x ≡ []) → flat_map f (take n xs) ≡ []
 none_of_these f xs zero none = refl

@@ -34,7 +34,7 @@ pub made_none : (config : Config) (programs : Programs) (generator : List ℕ) (
 made_none config programs generator runner =
     record { config = refl; goes = λ before seen. (before, seen, λ end more makes. (more, makes, omega arith)) }
 
--- one more after the others, it was measured what is in use, and rings were kept short
+-- one more after the others; what is in use was measured, and rings were kept short
 pub made_more : (programs : Programs) (first last after : List ℕ) (count : ℕ) (owed left : List ℕ)
     (start now next : RunnerView) (to : Move) (tidied : List PartsView)
     → Leads (HasMade start.config programs first last count owed) start now

@@ -21,7 +21,7 @@ KeepsOthers config core old new =
     (other : CoreId) (request : Request) → other.0 ≢ core.0
     → decision_on config new other request ≡ decision_on config old other request
 
--- what is kept holds of the machine
+-- what is kept holds for the machine
 pub record Knows (config : Config) (slices : List PartsView) (kept : Kept) : Type 0 where
   pub decided : AreDecided config slices kept.decided.items
   pub idle : AreIdle kept.idle.items slices

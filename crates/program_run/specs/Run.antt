@@ -430,7 +430,7 @@ Makes config programs (moves.Ask number) old new =
     Asks config number (next_of config.cores programs old.places number) old new
 Makes config programs (moves.Deliver pick) old new = Delivers config programs pick old new
 
--- it is measured what is in use, and moves are counted, where something bounds the run
+-- what is in use is measured, and moves are counted, if something bounds the run
 abbrev pub is_measured : Limits → Bool
 is_measured limits = is_limited limits.outstanding || is_limited limits.pace
 
@@ -451,8 +451,8 @@ abbrev pub drawn_move : ℕ → List Move → Option Move
 drawn_move word moves = slice_get moves (word % length moves)
 
 -- These moves are made after `made` others, where each slice has `owed` deliveries still to make, one after another.
--- Each is drawn from those that may come next, by the next word of the generator that is there; after it, it is
--- measured what is in use, and rings are kept short.
+-- Each is drawn from those that may come next, by the next word of the generator that is there; after it, what is in use
+-- is measured, and rings are kept short.
 abbrev pub MakesAll : Config → Programs → List ℕ → ℕ → List ℕ → List Move → RunState → RunState → Type 0
 MakesAll config programs generator made owed [] old new = new ≡ old
 MakesAll config programs generator made owed (to ∷ more) old new =
@@ -471,7 +471,7 @@ pub record Runs (config : Config) (programs : Programs) (seed : ℕ) (old new : 
 abbrev pub first_place : Place
 first_place = record { asked = 0; waiting = 0; registers = 0; stalled = false; usage = no_usage }
 
--- a new machine of which no call was made, which are wanted or not, each program before its first step, and nothing seen
+-- a new machine without calls, which are wanted or not, each program before its first step, and nothing seen
 pub record IsNewRun (config : Config) (bound : Bound) (programs : Programs) (wanted : Bool) (run : RunState) : Type 0
   where
     pub fresh : IsNewMachine config bound run.slices

@@ -15,7 +15,7 @@ sums_of config programs run = record {
   usage = usage_of_all no_usage (usages_of config.cores programs run.places);
 }
 
--- these are the sums of a run that is over, and there are none of one that isn't
+-- these are the sums if the run is over, and there are none if it isn't
 pub record AreSums (config : Config) (programs : Programs) (run : RunState) (sums : Option Sums) : Type 0 where
   pub over : IsOver programs run → sums ≡ Some (sums_of config programs run)
   pub stuck : ¬ IsOver programs run → sums ≡ None

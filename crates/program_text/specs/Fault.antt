@@ -24,7 +24,7 @@ use Rattle.program_text.specs.Text.{Program, Said, said_line, said_nothing}
 abbrev pub Statement : Type 0
 Statement = ℕ × List (List ℕ)
 
--- where so much was said before, the statements say the whole: each writes a line in which nothing is wrong
+-- after `said`, the statements say the whole: each writes a line in which nothing is wrong
 unfoldable pub Says : Said → List Statement → Said → Type 0
 Says said [] whole = said ≡ whole
 Says said (statement ∷ more) whole =
@@ -73,7 +73,7 @@ pub record IsMalformedLine (words : List (List ℕ)) (fault : LineFault) : Type 
   pub none : (line : Line) → ¬ WritesLine words line
   pub form : IsFormFault words fault
 
--- what is wrong with words, where so much was said before
+-- what is wrong with words, after `said`
 abbrev pub HasFault : Said → List (List ℕ) → LineFault → Type 0
 HasFault said words fault =
     IsMisplaced said words fault ⊎ IsMalformedSetting words fault ⊎ IsMalformedLine words fault

@@ -98,7 +98,7 @@ faults_of said (repeat n) =
 faults_of said end =
     (is_closed said, line_faults.NotACommand) ∷ (has_too_many (after_end said.blocks said), line_faults.OutOfRange) ∷ []
 
--- the first of them that is so
+-- the first of them that holds
 unfoldable pub first_so : List (Bool × LineFault) → Option LineFault
 first_so [] = None
 first_so (judged ∷ more) = if judged.0 then Some judged.1 else first_so more

@@ -37,7 +37,7 @@ words_behind keywords.Settle = 0
 words_behind keywords.Repeat = 1
 words_behind keywords.End = 0
 
--- where so many words are wanted: of as many one is no number, and of another number they are no command
+-- where `wanted` words are expected: if there are that many, one is no number; if not, they are no command
 pub record IsCountFault (wanted : ℕ) (words : List (List ℕ)) (fault : LineFault) : Type 0 where
   pub as_many : length words ≡ wanted → fault ≡ line_faults.BadNumber
   pub other : length words ≢ wanted → fault ≡ line_faults.NotACommand

@@ -45,7 +45,7 @@ pub record IsSoundReader (reader : Reader) : Type 0 where
 abbrev pub said_in : ReadStatement → Statement
 said_in statement = (statement.number, map (λ w. w.now) statement.words.items)
 
--- so much was said before the statements that are left
+-- `said` was read before the statements that are left
 pub record IsReading (all : List Statement) (said : Said) (left : List Statement) : Type 0 where
   pub done : List Statement
   pub split : done ++ left ≡ all

@@ -55,7 +55,7 @@ abbrev pub times : ℕ → List Step → List Step
 times zero steps = []
 times (suc n) steps = steps ++ times n steps
 
--- all steps after the first so many stand there so many times
+-- all steps after the first `start` are there `n` times
 abbrev pub written_out : ℕ → ℕ → List Step → List Step
 written_out start n steps = take start steps ++ times n (drop start steps)
 

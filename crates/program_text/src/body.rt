@@ -13,7 +13,7 @@ use address_map::{CoreId, Op};
 use std::alloc::{AllocError, Global};
 
 impl Reader {
-    /// Says what the line with this number says.
+    /// Adds what the line with this number says.
     pub(super) fn add(&mut self, alloc: Global, number: usize, line: Line) -> Result<(), AllocError>
         requires counted { IsSoundReader self.old }
         requires may { fault_of (said_by self.old) (line_of line) ≡ None }

@@ -147,7 +147,7 @@ impl Reader {
         Ok(())
     }
 
-    // Whether it is too late to say how many accesses of a core may be under way.
+    // Whether it is too late to set how many accesses of a core may be under way.
     #[tactic(auto, unfolding(crate::specs::Reading::said_by))]
     fn may_not_limit(&self) -> bool
         ensures { result ≡ is_late (said_by self.now) (said_by self.now).limits.outstanding }
@@ -278,7 +278,7 @@ impl Reader {
         self.has_too_many(more)
     }
 
-    // Whether so many steps more are too many.
+    // Whether `more` further steps are too many.
     fn has_too_many(&self, more: u64) -> bool
         requires { IsSoundReader self.now }
         ensures { result ≡ nat_lt MOST_ACCESSES (count_of (reverse (programs_of self.now.programs)) + more) }
@@ -287,14 +287,14 @@ impl Reader {
     }
 }
 
-// Whether so many deliveries are too many.
+// Whether `most` deliveries are too many.
 fn is_no_pace(most: u64) -> bool
     ensures { result ≡ nat_lt MOST_PACE most }
 {
     most > MOST_PACE
 }
 
-// Whether so many accesses can't be under way.
+// Whether `most` accesses can't be under way.
 fn is_no_limit(most: u64) -> bool
     ensures { result ≡ (most == 0 || nat_lt MOST_OUTSTANDING most) }
 {

@@ -5,7 +5,7 @@ ghost use Rattle.program_text.specs.Keyword.{keywords_by_name, name_of_keyword};
 
 use litmus_text::value_named;
 
-/// The word with which a line begins that doesn't configure.
+/// The first word of a line that doesn't configure.
 #[derive(Clone, Copy)]
 pub(super) enum Keyword {
     Outstanding,
@@ -35,7 +35,7 @@ static KEYWORDS: [(&[u8], Keyword); 10] = [
 ];
 
 impl Keyword {
-    /// The keyword with this name.
+    /// Returns the keyword with this name.
     pub(super) fn named(name: &[u8]) -> Option<Keyword>
         ensures value { result ≡ value_named keywords_by_name name.now }
         ensures found { IfSome result (λ keyword. name.now ≡ name_of_keyword keyword) }

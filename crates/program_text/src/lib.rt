@@ -1,9 +1,9 @@
 //! Reads programs: what each core of a machine asks for, access by access.
 //!
 //! [`Programs::read`] reads a text. `repeat` blocks and ranges of words are written out, so that a core's program is a
-//! list of steps, at most [`MOST_ACCESSES`] in all programs of a text. It answers exactly the programs that the
+//! list of steps, at most [`MOST_ACCESSES`] in all programs of a text. It returns exactly the programs that the
 //! text's lines write (specs/Line.antt, specs/Text.antt), or the fault of the first line at fault, in the order in
-//! which faults are judged (specs/Judged.antt, specs/Fault.antt).
+//! which faults are checked (specs/Judged.antt, specs/Fault.antt).
 #![tactic(auto)]
 
 pub use programs::{

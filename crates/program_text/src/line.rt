@@ -26,7 +26,7 @@ pub(super) enum Line {
 }
 
 impl Line {
-    /// The line that these words write. They are judged first by their keyword and their count, and then as numbers.
+    /// Returns the line that these words write. They are checked by their keyword and their count, and then as numbers.
     pub(super) fn parse(words: &[&[u8]]) -> Result<Self, LineFault>
         requires { ¬ BeginsAsSetting (map (λ w. w.now) words.now) }
         ensures reads { ReadsAs (map (λ w. w.now) words.now) result }
@@ -42,7 +42,7 @@ impl Line {
     }
 }
 
-// The line of this keyword whose other words these are.
+// Returns the line of this keyword with these other words.
 fn parse_called(keyword: Keyword, words: &[&[u8]]) -> Result<Line, LineFault>
     ensures reads { ReadsAs (name_of_keyword keyword ∷ map (λ w. w.now) words.now) result }
     ensures form { IfErr result (λ fault. IsCountFault (words_behind keyword) (map (λ w. w.now) words.now) fault) }
@@ -159,7 +159,7 @@ fn no_words(words: &[&[u8]]) -> Result<(), LineFault>
     }
 }
 
-// The number that is all of these words.
+// Returns the number that is all of these words.
 #[tactic(auto, using(litmus_text::proofs::FormLemmas::wrong_count))]
 fn number_alone(words: &[&[u8]]) -> Result<u64, LineFault>
     ensures written { IfOk result (λ n. Writes (map (λ w. w.now) words.now) (num n ∷ [])) }
@@ -173,7 +173,7 @@ fn number_alone(words: &[&[u8]]) -> Result<u64, LineFault>
     }
 }
 
-// The range that is all of these words.
+// Returns the range that is all of these words.
 #[tactic(auto, using(crate::proofs::LineLemmas::wrong_range), unfolding(crate::specs::Line::WritesRange))]
 fn range_alone(words: &[&[u8]]) -> Result<Range, LineFault>
     ensures written { IfOk result (λ range. WritesRange (map (λ w. w.now) words.now) range.first range.last []) }
@@ -189,7 +189,7 @@ fn range_alone(words: &[&[u8]]) -> Result<Range, LineFault>
     }
 }
 
-// The range and the number that are all of these words.
+// Returns the range and the number that are all of these words.
 #[tactic(auto, using(crate::proofs::LineLemmas::wrong_range), unfolding(crate::specs::Line::WritesRange))]
 fn range_and_number(words: &[&[u8]]) -> Result<(Range, u64), LineFault>
     ensures written { IfOk result
@@ -207,7 +207,7 @@ fn range_and_number(words: &[&[u8]]) -> Result<(Range, u64), LineFault>
     Ok((Range::parse(range)?, number_of(number)?))
 }
 
-// The range and the two numbers that are all of these words.
+// Returns the range and the two numbers that are all of these words.
 #[tactic(auto, using(crate::proofs::LineLemmas::wrong_range), unfolding(crate::specs::Line::WritesRange))]
 fn range_and_two_numbers(words: &[&[u8]]) -> Result<(Range, u64, u64), LineFault>
     ensures written { IfOk result

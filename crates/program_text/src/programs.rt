@@ -7,10 +7,10 @@ use mshr_file::MissKind;
 /// The most steps of all programs of a text.
 pub const MOST_ACCESSES: usize = 1_000_000;
 
-/// The most `repeat` blocks that stand one in another.
+/// The most `repeat` blocks that are nested in each other.
 pub const MOST_DEPTH: usize = 8;
 
-/// The most accesses of a core that may be under way: as many as there are tags.
+/// The most accesses of a core that may be under way: the number of tags.
 pub const MOST_OUTSTANDING: u64 = 64;
 
 /// The most deliveries that each slice makes after an access.
@@ -48,14 +48,14 @@ pub struct Limits {
 }
 
 impl Limits {
-    /// Whether it is said how many accesses of a core may be under way.
+    /// Whether it is given how many accesses of a core may be under way.
     pub fn is_limited(self) -> bool
         ensures { result ≡ is_limited self.outstanding }
     {
         is_said(self.outstanding)
     }
 
-    /// Whether it is said how many deliveries each slice makes.
+    /// Whether it is given how many deliveries each slice makes.
     pub fn is_paced(self) -> bool
         ensures { result ≡ is_limited self.pace }
     {

@@ -69,7 +69,7 @@ fn parse_span(text: &[u8], at: usize) -> Result<Range, LineFault>
     }
 }
 
-/// What follows the dot at this place and another.
+/// Returns what follows the dot at this place and another.
 fn behind_dots(text: &[u8], at: usize) -> Option<&[u8]>
     requires { at < length text.now }
     ensures some { IfSome result
@@ -82,14 +82,14 @@ fn behind_dots(text: &[u8], at: usize) -> Option<&[u8]>
     }
 }
 
-/// Where the first dot stands.
+/// Returns the place of the first dot.
 fn dot_at(text: &[u8]) -> Option<usize>
     ensures { result ≡ position is_dot text.now }
 {
     text.iter().position(|byte| *byte == b'.')
 }
 
-/// The number that a text has to spell.
+/// Returns the number that a text has to spell.
 pub(super) fn number_of(text: &[u8]) -> Result<u64, LineFault>
     ensures ok { OkIff result (IsNumber text.now) (digits_value 10 text.now) }
     ensures err { IfErr result (λ fault. fault ≡ LineFault.BadNumber) }

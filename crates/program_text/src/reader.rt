@@ -24,7 +24,7 @@ pub(super) struct Block {
     /// The number of its line.
     pub number: usize,
     pub times: u64,
-    /// How many steps of the program stand before it.
+    /// How many steps of the program come before it.
     pub start: usize,
 }
 
@@ -38,7 +38,7 @@ pub(super) struct Reader {
 }
 
 impl Programs {
-    /// Reads programs. The only faults are want of memory, a faulty line, and a configuration that is refused.
+    /// Reads programs. The only faults are running out of memory, a faulty line, and a configuration that is refused.
     pub fn read(alloc: Global, input: &[u8]) -> Result<Programs, TextFault>
         ensures written { IfOk result
             (λ programs. IsProgramText input.now (settings_of programs) programs.limits (programs_of programs)) }
@@ -147,7 +147,7 @@ impl Reader {
         reader.end()
     }
 
-    /// What was read, where no block is left open.
+    /// Returns what was read, if no block is left open.
     fn end(self) -> Result<Programs, TextFault>
         requires { IsSoundReader self }
         ensures read { IfOk result

@@ -28,7 +28,7 @@ pub(super) fn push_settle(steps: &mut Vec<Step>) -> Result<(), AllocError>
     Ok(())
 }
 
-/// The steps from the start on stand there so many times.
+/// Repeats the steps from `start` on, so that they are there `times` times.
 pub(super) fn repeat(steps: &mut Vec<Step>, start: usize, times: u64) -> Result<(), AllocError>
     ensures { OnOk result (steps.new.items ≡ written_out start times steps.old.items) }
 {

@@ -1,4 +1,4 @@
--- A core's turn by which nobody else's part changes: an access, an Inv, a Put-Ack, Data-E, or Data that leave the miss
+-- A core's turn that changes no other core's part: an access, an Inv, a Put-Ack, Data-E, or Data that leave the miss
 -- open.
 use Rattle.std.proofs.Common.{◌≡◌, ℕ, ◌<◌, ◌==◌, ◌&&◌, ◌||◌, Bool, true, false, not, refl, sym, subst, true≢false, inl}
 use Rattle.std.proofs.Common.{inr}
@@ -149,7 +149,7 @@ pub eviction : is_alone_at cache_events.Eviction false (λ n l. true) ≡ true
 unfolding all_words is_alone_at is_alone seen_alike
 eviction = refl
 
--- Nobody is invalidated while the home copy can be read.
+-- No core is invalidated while the home copy can be read.
 pub inv : is_alone_at cache_events.Inv false (λ n l. l.inv && not (is_open n.directory n.home)) ≡ true
 unfolding all_words is_alone_at is_alone seen_alike
 inv = refl

@@ -1,4 +1,4 @@
--- The directory answers who asks, and sends nothing else: the frame of such a row.
+-- The directory answers the core that asks, and sends nothing else: the frame of such a row.
 use Rattle.std.proofs.Common.{◌≡◌, ℕ, ◌<◌, ◌==◌, Bool, true, false, refl, sym, ◌∙◌, Option, true≢false}
 use Rattle.address_map.specs.declared.address.CoreId.{CoreId}
 use Rattle.directory_table.specs.declared.state.DirState.{DirState}
@@ -39,7 +39,7 @@ answer_kept cores roles line directory owner sharers home c sent coherent entry 
     (λ x below. by_place (λ y q. Kept (near y) (line.part y) q) line.part c (part_after_answer sent) x kept
     (λ other. still (near x) (line.part x) (others x below other) (coherent.counted x below)))
 
--- The look of who is told that its Put was taken; and of who is sent data to read.
+-- The look of a core that is notified that its Put was taken; and of one that is sent data to read.
 abbrev pub acked : Look → Look
 acked l = record l { request = no_request; put_ack = true }
 

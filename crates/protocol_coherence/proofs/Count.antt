@@ -1,10 +1,10 @@
--- How many cores pass a test, when the test changes at one core or nobody passes it.
+-- How many cores pass a test, when the test changes at one core or no core passes it.
 use Rattle.std.proofs.Common.{◌≡◌, ℕ, zero, suc, ◌+◌, ◌<◌, ◌≤◌, ◌==◌, Bool, true, false, refl, ap, arith, if◌then◌else◌}
 use Rattle.std.proofs.Common.{sym}
 use Rattle.std.proofs.lemmas.Bool.{eqb-false, eqb-true}
 use Rattle.protocol_coherence.specs.Coherent.{count_below}
 
--- The same tests pass as many cores.
+-- The same tests pass the same number of cores.
 pub count_below-same : (bound : ℕ) (p q : ℕ → Bool) → ((x : ℕ) → x < bound → p x ≡ q x)
     → count_below bound p ≡ count_below bound q
 unfolding count_below
@@ -14,7 +14,7 @@ count_below-same (suc bound) p q same =
     let rest = count_below-same bound p q (λ x below. same x (omega arith)) in
     rw (here, rest)
 
--- Where nobody passes, none is counted.
+-- Where no core passes, none is counted.
 pub count_below-none : (bound : ℕ) (p : ℕ → Bool) → ((x : ℕ) → x < bound → p x ≡ false) → count_below bound p ≡ 0
 unfolding count_below
 count_below-none zero p none = refl
@@ -27,7 +27,7 @@ one_or_none : (b : Bool) (n : ℕ) → (if b then 1 else 0) + n ≡ 0 → b ≡ 
 one_or_none true n e = absurd (omega arith)
 one_or_none false n e = refl
 
--- Where none is counted, nobody passes.
+-- Where none is counted, no core passes.
 pub count_below-zero : (bound : ℕ) (p : ℕ → Bool) → count_below bound p ≡ 0 → (x : ℕ) → x < bound → p x ≡ false
 unfolding count_below
 count_below-zero zero p none x below = absurd (omega arith)
@@ -61,7 +61,7 @@ count_below-less (suc bound) p q c below was is same =
         let less = rest (omega (arith, other)) in
         rw (here, less) (omega arith)
 
--- Where nobody from a bound on passes, those below it are all.
+-- Where no core from a bound on passes, those below it are all.
 pub count_below-wider : (n m : ℕ) (p : ℕ → Bool) → n ≤ m → ((x : ℕ) → n ≤ x → x < m → p x ≡ false)
     → count_below m p ≡ count_below n p
 unfolding count_below

@@ -77,7 +77,7 @@ more_data : is_alone_at (cache_events.Data 0 1) false (λ n l. is_shared_data l.
 unfolding all_words is_alone_at is_alone seen_alike
 more_data = refl
 
--- Where as many were counted as are wanted, nothing is awaited any more.
+-- Where the number counted is the number wanted, nothing is awaited any more.
 balanced : (waits awaits : Bool) (k n : ℕ) → waits ≡ false → k ≡ n → (awaits ≡ false → k ≡ 0)
     → (if waits then k + 0 else 0) + (if awaits then n else 0) ≡ 0 + k
 balanced true awaits k n e same none = absurd (true≢false e)

@@ -85,7 +85,7 @@ other_core : (a b : ℕ) → (a == b) ≡ false → (b == a) ≡ false
 other_core a b e = ne_eqb b a (λ same. eqb-false a b e (sym same))
 
 module _ (cores : ℕ) (roles : Roles) (s : ℕ) (home : Bool) (part : ℕ → Part) (most : cores ≤ 64) where
-  -- The rows with the exclusive state, by the directory's state and the request. `_` stands for each that is left.
+  -- The rows with the exclusive state, by the directory's state and the request. `_` covers each that is left.
   rows_on : (directory : DirState) (owner : Option CoreId) (event : DirEvent)
       → IsCoherent cores (line_at directory owner s home part) roles → IsWithin cores event
       → IsTrue (is_asked_for (line_at directory owner s home part) event)

@@ -1,5 +1,5 @@
--- The directory serves a GetM of an owned line: the request goes on to the owner, and who asks is the owner from then
--- on.
+-- The directory serves a GetM of an owned line: the request goes on to the owner, and the core that asks is the owner
+-- from then on.
 use Rattle.std.proofs.Common.{◌≡◌, ℕ, ◌+◌, ◌<◌, ◌==◌, ◌&&◌, Bool, true, false, not, refl, ap, sym, ◌∙◌, subst, arith}
 use Rattle.std.proofs.Common.{Some, if◌then◌else◌, true≢false}
 use Rattle.std.proofs.lemmas.Bool.{and_from, eq-eqb, eqb-false, eqb-true, ne_eqb}

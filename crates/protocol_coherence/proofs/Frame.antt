@@ -104,7 +104,7 @@ balance_kept cores keeper p q balanced owing balance =
     let same = debts_kept cores p q owing in
     record { due = due_kept cores keeper p q owing balanced.due; sum = omega (arith, same, balance, balanced.sum) }
 
--- They are in balance where nobody owes, and the keeper awaits none.
+-- They are in balance where no core owes, and the keeper awaits none.
 pub balance_none : (cores keeper : ℕ) (q : ℕ → Part) → ((x : ℕ) → x < cores → owes (q x).look ≡ false)
     → (q keeper).counted ≡ 0
     → wanted_acks (q keeper) ≡ 0 → IsBalanced cores keeper q

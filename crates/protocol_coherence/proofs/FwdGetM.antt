@@ -1,4 +1,4 @@
--- The owner serves a Fwd-GetM: the line goes on to who asks, which is the keeper from then on.
+-- The owner serves a Fwd-GetM: the line goes on to the core that asks, which is the keeper from then on.
 use Rattle.std.proofs.Common.{◌≡◌, ℕ, ◌+◌, ◌<◌, ◌==◌, ◌&&◌, ◌||◌, Bool, true, false, not, refl, ap, sym, ◌∙◌, subst}
 use Rattle.std.proofs.Common.{arith, if◌then◌else◌, true≢false, IsTrue}
 use Rattle.std.proofs.lemmas.Bool.{and_from, and_parts, eq-eqb, ne_eqb}
@@ -23,7 +23,7 @@ use Rattle.protocol_coherence.specs.Line.{Line, Look, Near, Part, Roles, near_of
 use Rattle.protocol_coherence.specs.LineSteps.{part_after_row, after_turn, change_if, part_with_data, stands}
 use Rattle.protocol_coherence.specs.LineSteps.{look_after_row}
 
--- Somebody holds the line, and the home copy isn't current.
+-- Some core holds the line, and the home copy isn't current.
 abbrev pub is_held : DirState → Bool → Bool
 is_held directory home = not home && (is_modified directory || is_awaited directory)
 

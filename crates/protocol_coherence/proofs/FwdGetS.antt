@@ -19,7 +19,7 @@ use Rattle.protocol_coherence.specs.Line.{Line, Look, Near, Part, Roles, near_of
 use Rattle.protocol_coherence.specs.LineSteps.{part_after_row, after_turn, change_if, part_with_data, stands}
 use Rattle.protocol_coherence.specs.LineSteps.{look_after_row}
 
--- The row of who serves: its look fits beside the block that comes home.
+-- The row of the core that serves: its look fits with the block that comes home.
 unfoldable pub serves : Near → Look → CopyState → CacheSends → Bool
 serves n l next sent =
     sends_data sent && sends_home sent
@@ -81,7 +81,7 @@ asker : each_fit (λ n l. if_so (is_asked n.directory n.home && n.asker) (λ _.
 unfolding all_words seen_alike
 asker = refl
 
--- Nobody else has the line.
+-- No other core has the line.
 others : each_fit (λ n l. if_so (is_asked n.directory n.home && not n.server && not n.keeper && not n.asker) (λ _.
     is_fit (record n { home = true }) l)) ≡ true
 unfolding all_words

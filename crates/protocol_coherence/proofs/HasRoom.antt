@@ -309,7 +309,7 @@ none_room cores line event = record {
 }
 
 module _ (cores : ℕ) (roles : Roles) (s : ℕ) (home : Bool) (part : ℕ → Part) (most : cores ≤ 64) where
-  -- Each row with the exclusive state finds room. `_` stands for each state that no line above it takes.
+  -- Each row with the exclusive state finds room. `_` covers each state that no line above it takes.
   room_on : (directory : DirState) (owner : Option CoreId) (event : DirEvent)
       → IsCoherent cores (line_at directory owner s home part) roles → IsWithin cores event
       → IsTrue (is_asked_for (line_at directory owner s home part) event)

@@ -221,7 +221,7 @@ owner_is cores roles owner core s home part coherent within own =
     (coherent.fit core.0 within)
     (eq-eqb core.0 owner.0 (sym (eqb-true owner.0 core.0 own)))
 
--- Each row with the exclusive state is there. The last line stands for each cell that is left.
+-- Each row with the exclusive state is there. The last line covers each cell that is left.
 row_on : (cores : ℕ) (roles : Roles) (directory : DirState) (owner : Option CoreId) (s : ℕ) (home : Bool)
     (part : ℕ → Part) (event : DirEvent) → IsCoherent cores (line_at directory owner s home part) roles
     → 0 < cores → IsWithin cores event → IsTrue (is_asked_for (line_at directory owner s home part) event)

@@ -1,4 +1,4 @@
--- The directory serves a GetM of a shared line: each other sharer is sent an Inv, and the writer is told how many.
+-- The directory serves a GetM of a shared line: each other sharer is sent an Inv, and the writer learns how many.
 use Rattle.std.proofs.Common.{◌≡◌, ℕ, ◌<◌, ◌≤◌, ◌==◌, ◌&&◌, Bool, true, false, not, refl, ap, sym, ◌∙◌, arith, Some}
 use Rattle.std.proofs.Common.{None, if◌then◌else◌, true≢false}
 use Rattle.std.proofs.Math.Bool.{and-false, and-true}
@@ -20,7 +20,7 @@ use Rattle.protocol_coherence.specs.Fit.{awaits, is_counting, is_fit, is_get_m, 
 use Rattle.protocol_coherence.specs.Line.{Look, Near, Part, Roles, near_of}
 use Rattle.protocol_coherence.specs.LineSteps.{part_after_answer, change_if, invalidated_by}
 
--- The entry as a core sees it once one core is the owner and nobody a sharer.
+-- The entry as a core sees it once one core is the owner and none a sharer.
 abbrev pub owned : Near → Bool → Bool → Bool → Near
 owned n owner sharer keeper = record n { directory = dir_states.M; owner = owner; sharer = sharer; keeper = keeper }
 

@@ -1,4 +1,4 @@
--- Where one core may write the line, nobody else has it or gets it.
+-- Where one core may write the line, no other core has it or gets it.
 use Rattle.std.proofs.Common.{◌≡◌, ℕ, ◌<◌, ◌&&◌, true, false, not, refl, ap, sym, ◌∙◌, true≢false, inl, inr}
 use Rattle.std.proofs.lemmas.Bool.{and_from, cases_eq, ne_eqb}
 use Rattle.cache_table.specs.CopyState.{is_readable, is_writer}
@@ -19,7 +19,7 @@ nobody_comes : each_fit (λ n l. if_so (not n.keeper && not (owes l) && not (is_
 unfolding all_words
 nobody_comes = refl
 
--- What a writer knows: it is the keeper, nobody owes, the home copy isn't read, and nobody else has the line or gets
+-- What a writer knows: it is the keeper, no core owes, the home copy isn't read, and no other core has the line or gets
 -- it.
 pub record Alone (cores : ℕ) (line : Line) (roles : Roles) (c : ℕ) : Type 0 where
   pub keeper : c ≡ roles.keeper

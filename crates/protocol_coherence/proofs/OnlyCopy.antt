@@ -1,4 +1,4 @@
--- The directory gives the only copy of a line that nobody has: who asks is the keeper from then on.
+-- The directory gives the only copy of a line that no core has: the core that asks is the keeper from then on.
 use Rattle.std.proofs.Common.{◌≡◌, ℕ, ◌<◌, ◌==◌, ◌&&◌, Bool, true, false, not, refl, ap, sym, ◌∙◌, Some, None}
 use Rattle.std.proofs.Common.{if◌then◌else◌, true≢false}
 use Rattle.std.proofs.lemmas.Bool.{and_from, eq-eqb, ne_eqb}

@@ -1,4 +1,4 @@
--- When nobody owes an acknowledgement: while the keeper awaits none.
+-- When no core owes an acknowledgement: while the keeper awaits none.
 use Rattle.std.proofs.Common.{◌≡◌, ℕ, ◌<◌, ◌||◌, true, false, not, refl, ap, subst, arith, if◌then◌else◌}
 use Rattle.std.proofs.lemmas.Bool.{eqb-true}
 use Rattle.directory_table.specs.Law.{is_idle}
@@ -25,7 +25,7 @@ open_awaits : each_fit (λ n l. if_so (is_idle n.directory || is_open n.director
 unfolding all_words
 open_awaits = refl
 
--- While nobody has the line, or the home copy can be read, nobody owes.
+-- While no core has the line, or the home copy can be read, no core owes.
 pub quiet_open : (cores : ℕ) (line : Line) (roles : Roles) → IsCoherent cores line roles
     → (is_idle line.directory || is_open line.directory line.home) ≡ true → Quiet cores line roles
 quiet_open cores line roles coherent home =
@@ -44,7 +44,7 @@ keeper_holds cores line roles c coherent within holds =
     eqb-true c roles.keeper (if_so-at _ _ (each_fit-at _ holder_keeper (near_of line roles c) (line.part c).look
     (coherent.fit c within)) holds)
 
--- While a holder awaits nothing, nobody owes.
+-- While a holder awaits nothing, no core owes.
 pub quiet_holder : (cores : ℕ) (line : Line) (roles : Roles) (c : ℕ) → IsCoherent cores line roles → c < cores
     → holder (line.part c).look ≡ true → awaits (line.part c).look ≡ false → Quiet cores line roles
 quiet_holder cores line roles c coherent within holds still =

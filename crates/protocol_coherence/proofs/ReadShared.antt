@@ -1,4 +1,4 @@
--- The directory serves a GetS of a line that nobody has, or that is shared: who asks becomes a sharer.
+-- The directory serves a GetS of a line that no core has, or that is shared: the core that asks becomes a sharer.
 use Rattle.std.proofs.Common.{◌≡◌, ℕ, ◌<◌, ◌≤◌, ◌==◌, ◌&&◌, ◌||◌, Bool, true, false, not, refl, ap, sym, ◌∙◌, subst}
 use Rattle.std.proofs.Common.{arith, None, inl, inr}
 use Rattle.std.proofs.Math.Bool.{or-false, or-true}

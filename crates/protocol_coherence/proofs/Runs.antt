@@ -31,7 +31,7 @@ abbrev goes : DirState → Option CoreId → ℕ → DirSends → DirStep
 goes state owner sharers sent =
     record { state = state; owner = owner; sharers = sharers; sends = sent; writes_home = false }
 
--- ---- core 0 writes a line that nobody has
+-- ---- core 0 writes a line that no core has
 
 abbrev granted_0 : DirStep
 granted_0 = goes dir_states.M (Some core_0) 0 (dir_sends.Data 0)

@@ -6,7 +6,7 @@ use Rattle.cache_table.specs.declared.row.CacheEvent.TheVariants as cache_events
 use Rattle.cache_table.specs.declared.state.CopyState.{CopyState}
 use Rattle.cache_table.specs.declared.state.CopyState.TheVariants as copy_states
 
--- Data by which all acknowledgements are there, by which some are missing, and by which too many are.
+-- Data with which all acknowledgements are there, with which some are missing, and with which there are too many.
 abbrev pub data_sample : Bool → Bool → CacheEvent
 data_sample true few = cache_events.Data 0 0
 data_sample false true = cache_events.Data 1 0

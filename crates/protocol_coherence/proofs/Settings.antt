@@ -1,4 +1,4 @@
--- The exclusive state makes a difference to one row alone: a request to read a line that nobody has.
+-- The exclusive state makes a difference to one row alone: a request to read a line that no core has.
 use Rattle.std.proofs.Common.{ℕ, Bool, true, false, Option, Some}
 use Rattle.address_map.specs.declared.address.CoreId.{CoreId}
 use Rattle.directory_table.specs.Row.{cell}
@@ -9,7 +9,7 @@ use Rattle.directory_table.specs.declared.row.DirEvent.TheVariants as dir_events
 use Rattle.directory_table.specs.declared.row.DirRow.{DirRow}
 
 -- What holds of each row with the setting, and of that one without it, holds of each row at both settings. The lines
--- of GetS split the cases, and the last stands for each that is left.
+-- of GetS split the cases, and the last covers each that is left.
 pub by_setting : (P : DirState → Option CoreId → DirEvent → DirRow → Type 0) (s : ℕ)
     → ((directory : DirState) (owner : Option CoreId) (event : DirEvent)
     → P directory owner event (cell true directory owner s event))

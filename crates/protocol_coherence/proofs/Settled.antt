@@ -1,4 +1,4 @@
--- Nothing comes early, and where nothing is in flight the owner has the line or nobody does.
+-- Nothing comes early, and where nothing is in flight the owner has the line or no core does.
 use Rattle.std.proofs.Common.{◌≡◌, ℕ, ◌<◌, ◌&&◌, Bool, true, false, not, refl, ap, sym, ◌∙◌, Option, Some, None, IfSome}
 use Rattle.std.proofs.Common.{IsTrue, IsFalse, true≢false}
 use Rattle.std.proofs.lemmas.Bool.{and_from, eq-eqb}

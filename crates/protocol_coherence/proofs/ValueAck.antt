@@ -1,4 +1,4 @@
--- Taking an Inv-Ack moves no block, and nobody claims a new one.
+-- Taking an Inv-Ack moves no block, and no core claims a new one.
 use Rattle.std.proofs.Common.{◌≡◌, ℕ, ◌+◌, ◌<◌, ◌==◌, ◌&&◌, Bool, true, false, refl, ap, sym, ◌∙◌, IsTrue, nat_lt}
 use Rattle.address_map.specs.declared.block.Block.{Block}
 use Rattle.cache_table.specs.Row.{row_of}

@@ -142,8 +142,8 @@ back_put sent core x asks p = by (is_sent_inv sent x) (is_named (forwarded_to se
 
 -- ---- a row
 
--- Data leave the home copy only where it is current; who owns the line afterwards did, or asked; the home copy goes on
--- being current, or is written with the owner's block or the one that comes home.
+-- Data leave the home copy only where it is current; who owns the line afterwards did, or asked; the home copy stays
+-- current, or is written with the owner's block or the one that comes home.
 record Moves (directory : DirState) (owner : Option CoreId) (event : DirEvent) (state : DirState)
     (owns : Option CoreId) (sent : DirSends) (writes : Bool) : Type 0 where
   gives : sends_data sent ≡ true → is_at_home directory ≡ true
@@ -182,7 +182,7 @@ new_owner directory owner event core sent asked gives = record {
   brings = λ h. nothing h;
 }
 
--- Each row with the exclusive state moves blocks so. `_` stands for each state and event that no line above it takes.
+-- Each row with the exclusive state moves blocks so. `_` covers each state and event that no line above it takes.
 row_on : (s : ℕ) (directory : DirState) (owner : Option CoreId) (event : DirEvent)
     → RowMoves directory owner event (cell true directory owner s event)
 row_on s dir_states.I owner (dir_events.GetS core) = new_owner _ _ _ core _ refl (λ h. refl)

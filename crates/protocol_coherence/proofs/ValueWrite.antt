@@ -1,4 +1,4 @@
--- A write makes its core's block the newest, and nobody else has claimed one.
+-- A write makes its core's block the newest, and no other core has claimed one.
 use Rattle.std.proofs.Common.{◌≡◌, ℕ, ◌<◌, ◌==◌, ◌&&◌, ◌||◌, Bool, true, false, not, refl, ap, sym, ◌∙◌, subst}
 use Rattle.std.proofs.Common.{if◌then◌else◌, true≢false}
 use Rattle.std.proofs.lemmas.Bool.{and_from, eqb-false, eqb-true}
@@ -70,7 +70,7 @@ performs_at cores line roles c next sent coherent within row may =
       no_mail = not-at _ (right _ _ e);
     }
 
--- Who neither has the line nor gets it claims no block.
+-- A core that neither has the line nor gets it claims no block.
 claims_nothing : each_fit (λ n l. if_so (not (comes l) && not (holder l))
     (λ _. not (has_newest l) && is_no_data l.incoming && not (n.owner && is_put_m l.request))) ≡ true
 unfolding all_words has_newest

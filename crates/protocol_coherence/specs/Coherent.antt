@@ -37,7 +37,7 @@ pub record IsBalanced (cores : ℕ) (keeper : ℕ) (part : ℕ → Part) : Type 
   pub due : (core : ℕ) → core < cores → owes (part core).look ≡ true → (part core).owes_to ≡ keeper
   pub sum : debts cores part + (part keeper).counted ≡ wanted_acks (part keeper)
 
--- An owner stands in the entry exactly in M, and only cores stand in it.
+-- An owner is in the entry exactly in M, and only cores are in it.
 pub record IsEntry (cores : ℕ) (directory : DirState) (owner : Option CoreId) (sharers : ℕ) : Type 0 where
   pub in_m : HasOwnerInM directory owner
   pub owner_within : IfSome owner (λ core. core.0 < cores)

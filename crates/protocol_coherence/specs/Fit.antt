@@ -119,7 +119,7 @@ is_dropped _ = false
 
 -- ---- words for a core
 
--- A Put-Ack stands at the front of the core's forwarded channel.
+-- A Put-Ack is at the front of the core's forwarded channel.
 unfoldable pub is_put_ack_first : Look → Bool
 is_put_ack_first look = look.put_ack && not look.inv && is_no_forward look.forward
 
@@ -141,7 +141,7 @@ holder look =
     || (is_written_back look.state && not (is_put_ack_first look))
     || (is_reading look.state && is_only_data look.incoming)
 
--- The core may read the line, or has data on their way by which it will.
+-- The core may read the line, or has data on their way that will allow it.
 unfoldable pub comes : Look → Bool
 comes look = is_readable look.state || (is_reading look.state && not (is_no_data look.incoming))
 
@@ -210,11 +210,11 @@ inv_fits state incoming inv =
 unfoldable pub debt_fits : Bool → Bool → Bool → Bool
 debt_fits inv sent keeper = not (inv && sent) && (keeper implies not (inv || sent))
 
--- A block comes home only while the directory waits for it, and an owner stands in the entry only in M.
+-- A block comes home only while the directory waits for it, and an owner is in the entry only in M.
 unfoldable pub directory_fits : DirState → Bool → Bool → Bool
 directory_fits directory home owner = (home implies is_awaited directory) && (owner implies is_modified directory)
 
--- Who owns the line or is asked for it was granted it, and nobody is asked twice.
+-- A core that owns the line or is asked for it was granted it, and no core is asked twice.
 unfoldable pub owner_fits : Look → Bool → Bool
 owner_fits look owner = (owner implies is_granted look && is_no_forward look.forward)
     && (not (is_no_forward look.forward) implies is_granted look)

@@ -110,7 +110,7 @@ after_ack line core from next sent =
 
 -- ---- the directory's turn
 
--- The directory's entry, with a home copy, of which the table reads nothing.
+-- The directory's entry, with a home copy, which the table doesn't read.
 abbrev pub entry_of : Line → Block → DirEntry
 entry_of line home = record { home = home; sharers = line.sharers; owner = line.owner; state = line.directory }
 
@@ -219,7 +219,7 @@ idle = record {
   counted = 0;
 }
 
--- Nobody has the line, and nothing is in flight.
+-- No core has the line, and nothing is in flight.
 abbrev pub first : Line
 first = record { directory = dir_states.I; owner = None; sharers = 0; home = false; part = λ core. idle }
 

@@ -66,7 +66,7 @@ pub record HasRows (exclusive : Bool) (cores : ℕ) (line : Line) : Type 0 where
 abbrev pub has_room_for_inv : Look → Bool
 has_room_for_inv look = not look.inv && is_no_forward look.forward && not look.put_ack
 
--- Where a forwarded request is put, at most an Inv stands before it.
+-- Where a forwarded request is put, at most an Inv comes before it.
 abbrev pub has_room_for_forward : Look → Bool
 has_room_for_forward look = is_no_forward look.forward && not look.put_ack
 
@@ -123,7 +123,7 @@ is_still look =
     is_no_request look.request && is_no_data look.incoming && not look.inv && is_no_forward look.forward
     && not look.put_ack && not look.sent && not (is_waiting look.state) && not (is_leaving look.state)
 
--- Where nothing is in flight, the directory waits for nothing, and who stands as the owner has the only copy.
+-- Where nothing is in flight, the directory waits for nothing, and the owner in the entry has the only copy.
 pub record IsSettled (cores : ℕ) (line : Line) : Type 0 where
   pub not_awaited : IsFalse line.home → ((c : ℕ) → c < cores → IsTrue (is_still (line.part c).look))
       → IsFalse (is_awaited line.directory)

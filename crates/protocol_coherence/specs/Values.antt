@@ -1,4 +1,4 @@
--- The blocks of a line: where they stand, how each step moves them, and which of them are the newest.
+-- The blocks of a line: where they are, how each step moves them, and which of them are the newest.
 use Rattle.std.specs.Prelude.{◌≡◌, ◌<◌, ℕ, ◌==◌, ◌&&◌, ◌||◌, Bool, false, not, if◌then◌else◌, IsTrue, IsFalse}
 use Rattle.address_map.specs.declared.block.Block.{Block}
 use Rattle.cache_table.specs.CopyState.{is_readable, is_writer}

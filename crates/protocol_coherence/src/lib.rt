@@ -6,7 +6,7 @@
 //! one row of one of the two tables, `cache_table`'s or `directory_table`'s, whose event is at hand: it sets the state
 //! that the row says, takes the message, and puts what the row sends into its channels. The machine starts with nothing
 //! cached, and takes any steps in any order. `specs/Values.antt` moves the blocks along. What is promised of all that
-//! the machine reaches stands in `specs/Promise.antt`.
+//! the machine reaches is in `specs/Promise.antt`.
 //!
 //! The functions here do nothing and cost nothing: each has a theorem for its contract. The proofs rest on what
 //! `specs/Coherent.antt` says of a line and `specs/Fit.antt` of each core, which every step keeps.
@@ -38,7 +38,7 @@ pub fn each_send_has_room()
         → Reached exclusive cores line → HasRoom exclusive cores line }
 {}
 
-/// Whatever a line reaches, data and Put-Acks are there only for who has no request waiting.
+/// Whatever a line reaches, data and Put-Acks are there only for a core that has no request waiting.
 pub fn nothing_comes_early()
     ensures early { (exclusive : Bool) (cores : ℕ) (line : Line) → 0 < cores → cores ≤ 64
         → Reached exclusive cores line → NothingIsEarly cores line }

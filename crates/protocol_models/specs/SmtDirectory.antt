@@ -35,7 +35,7 @@ entry_title (entries.S_D sharing.Asker) = codes "S_D, sharers r"
 entry_title (entries.S_D sharing.Others) = codes "S_D, sharers x"
 entry_title (entries.S_D sharing.Both) = codes "S_D, sharers r, x"
 
--- .. and in the queries: its state, who owns the line, whether who asks shares it, and whether others do
+-- .. and in the queries: its state, who owns the line, whether the requester shares it, and whether others do
 abbrev pub entry_term : Entry → List ℕ
 entry_term entries.I = codes "D_I nobody false false"
 entry_term (entries.S sharing.Nobody) = codes "D_S nobody false false"

@@ -31,7 +31,7 @@ left_by sharing.Both sharers asker is = rw is.no_other refl
 some_other : (sharers asker : ℕ) → (without sharers asker == 0) ≡ false → (sharers == 0) ≡ false
 some_other sharers asker others = ne_eqb sharers 0 (λ none. absurd (cc (rw (none, none_without asker) at others)))
 
--- S is entered exactly where somebody shares the line
+-- S is entered exactly where some core shares the line
 shared_with : (seen : Sharing) (sharers : ℕ) (asker : CoreId) → IsSharing seen sharers asker
     → shared_by sharers ≡ with_all seen
 shared_with sharing.Nobody sharers asker none = rw none refl

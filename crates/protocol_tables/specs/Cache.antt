@@ -92,7 +92,7 @@ only_copy =
     (codes "Data-E (exclusive on), loads alone", cache_events.DataE true)
     ∷ (codes "Data-E (exclusive on), a write too", cache_events.DataE false) ∷ []
 
--- what answers a core
+-- the messages that answer a core
 abbrev pub answer_columns : Bool → List Column
 answer_columns exclusive =
     (codes "Data, k = n", cache_events.Data 1 1) ∷ (codes "Data, k < n", cache_events.Data 1 0)

@@ -40,7 +40,7 @@ static ASKED: [Column; 7] = [
     ("Put-Ack", CacheEvent::PutAck),
 ];
 
-/// What answers a core. Only the exclusive state brings the last two.
+/// The messages that answer a core. Only the exclusive state uses the last two.
 static ANSWERED: [Column; 8] = [
     ("Data, k = n", CacheEvent::Data { n: 1, k: 1 }),
     ("Data, k < n", CacheEvent::Data { n: 1, k: 0 }),
@@ -58,7 +58,7 @@ static ANSWERED: [Column; 8] = [
     ),
 ];
 
-/// What answers a core under the setting.
+/// Returns the messages that answer a core under the setting.
 fn answered(exclusive: bool) -> &'static [Column]
     ensures { columns_of result.now ≡ answer_columns exclusive }
 {

@@ -35,7 +35,7 @@ impl fmt::Display for Event {
     }
 }
 
-/// What is said of the event besides: how its numbers compare, or what the miss register holds.
+/// What is said of the event in addition: how its numbers compare, or what the miss register holds.
 #[derive(Clone, Copy)]
 struct Guard(CacheCase);
 
@@ -112,7 +112,7 @@ impl fmt::Display for Effects {
     }
 }
 
-/// What there is in place of a row that goes on, where the table has none: the event never comes, or the access joins,
+/// What there is instead of a row that goes on, where the table has none: the event never comes, or the access joins,
 /// stalls or is refused before it comes to the table.
 const fn none_of(state: CopyState, case: CacheCase) -> &'static str
     ensures { result.now ≡ none_of state case }

@@ -12,9 +12,9 @@ use directory_table::DirState;
 #[derive(Clone, Copy, Debug, PartialEq, Eq)]
 pub enum Sharing {
     Nobody,
-    /// Who asks, and no other.
+    /// The requester, and no other.
     Asker,
-    /// Others, and not who asks.
+    /// Others, and not the requester.
     Others,
     /// Who asks, and others.
     Both,
@@ -33,7 +33,7 @@ pub enum Entry {
     S_D(Sharing),
 }
 
-/// A request, whoever asks; or the block that comes home.
+/// A request, from any core; or the block that comes home.
 #[derive(Clone, Copy, Debug, PartialEq, Eq)]
 pub enum DirCase {
     GetS,
@@ -47,16 +47,16 @@ pub enum DirCase {
 #[derive(Clone, Copy, Debug, PartialEq, Eq)]
 pub enum DirMessage {
     Nothing,
-    /// Data that name no acknowledgement, to who asks.
+    /// Data that name no acknowledgement, to the requester.
     Data,
-    /// Data as the only copy, to who asks.
+    /// Data as the only copy, to the requester.
     DataE,
-    /// Data that name each other sharer, to who asks, and to each of these an Inv.
+    /// Data that name each other sharer, to the requester, and to each of these an Inv.
     DataAndInv,
     /// The request to the owner.
     FwdGetS,
     FwdGetM,
-    /// To who asks.
+    /// To the requester.
     PutAck,
 }
 
@@ -76,13 +76,13 @@ pub enum Shares {
     Nobody,
     /// Who shared it.
     Same,
-    /// Who asks alone.
+    /// The requester alone.
     Asker,
-    /// Who shared it, and who asks.
+    /// The old sharers, and the requester.
     AskerToo,
-    /// Who shared it, but not who asks.
+    /// The old sharers, but not the requester.
     AskerNot,
-    /// Who owned it, and who asks.
+    /// The old owner, and the requester.
     OwnerAndAsker,
 }
 
@@ -144,7 +144,7 @@ pub fn dir_cases() -> &'static [DirCase]
     &EVENTS
 }
 
-/// The row at each entry that looks so, whoever asks.
+/// Returns the row at each entry that looks so, whichever core asks.
 pub const fn directory_rule(exclusive: bool, entry: Entry, case: DirCase) -> DirRule
     ensures is { result ≡ rule_of exclusive entry case }
     ensures each { (at : DirEntry) (asker : CoreId) → IsEntry entry at.state at.owner at.sharers asker

@@ -6,17 +6,17 @@
 //! Without it that is left out. The contracts say what is written byte for byte (`table_of` of specs/Cache.antt and
 //! specs/Directory.antt).
 //!
-//! The functions of `cache_table` and `directory_table` are asked with numbers and sets of cores, and most of these make
-//! no difference. As a value a row is asked for by what does, for any number of cores: [`cache_rule`] by how the
-//! acknowledgements that have come compare with those that are needed, [`directory_rule`] by who owns and who shares the
-//! line, as the core sees it that asks. Their contracts say that this is the row at every event and every entry that look
+//! The functions of `cache_table` and `directory_table` take numbers and sets of cores, and most of these make no
+//! difference. [`cache_rule`] and [`directory_rule`] take only what makes one, for any number of cores: how the
+//! acknowledgements that have come compare with those that are needed; and who owns and who shares the line, as the
+//! core that asks sees it. Their contracts say that this is the row at every event and every entry that look
 //! so (`IsCase` of specs/CacheRows.antt, `IsEntry` of specs/DirectoryRows.antt).
 //!
 //! [`write_cache_cells`] and [`write_directory_cells`] ask for each of these rows, and write an object a line: what is at
 //! hand, what is done, and the next state, each as data (`cells_of` of specs/CacheJson.antt and specs/DirectoryJson.antt).
 //! So a row is said for any number of cores, and can be read by a program.
 //!
-//! A call takes no memory, and one that writes fails only where its writer does.
+//! A call allocates nothing, and one that writes fails only where its writer does.
 #![tactic(auto)]
 
 pub use cache::{text_of_effect, write_cache_table};

@@ -1,4 +1,4 @@
--- State and book go on belonging together: what each call makes of the totals.
+-- State and book still belong together: what each call makes of the totals.
 use Rattle.std.proofs.Common.{◌≡◌, ℕ, ◌<◌, List, [], ◌∷◌, ◌++◌, get_or, length, map, Some, Ok, sym, ap, ◌∙◌}
 use Rattle.std.proofs.Common.{subst, arith}
 use Rattle.std.specs.Prelude.{slice_get, slice_index_or}

@@ -57,14 +57,14 @@ impl Account {
         }
     }
 
-    /// How many requests were accepted.
+    /// Returns how many requests were accepted.
     pub(crate) fn accepted(&self) -> usize
         ensures { result ≡ length self.now.asked }
     {
         self.accepted
     }
 
-    /// The request of this number.
+    /// Returns the request of this number.
     pub(crate) fn asked(&self, seq: u64) -> Option<Ask>
         ensures { result ≡ slice_get self.now.asked seq }
     {

@@ -113,7 +113,7 @@ impl<N: SliceNames> Book<N> {
         }
     }
 
-    /// Hands out the reply of the least number that waits for the port's core, if any does. It takes no memory.
+    /// Hands out the reply of the least number that waits for the port's core, if any does. It allocates nothing.
     pub fn hand_out<F: MissFile>(
         &mut self,
         state: &mut SliceState<F>,

@@ -135,7 +135,7 @@ impl CounterBlanks {
         }
     }
 
-    /// The books of the ledgers, and one share with every part.
+    /// Returns the books of the ledgers, and one share with every part.
     pub(crate) fn open<N: SliceNames>(self) -> (CounterBooks<N>, CounterShares<N>)
         requires names { AreNamed (λ place. N.names (place + 2)) self.names }
         requires parts { self.parts ≡ N.setup.cores }

@@ -11,8 +11,8 @@ use address_map::SliceId;
 use std::alloc::{AllocError, Global};
 
 impl<N: SliceNames> Port<N> {
-    /// A port for each core, ascending, that leads to no slice: who has one for each slice that a machine may have asks
-    /// for nothing through those of the slices that it doesn't have.
+    /// Returns a port for each core, ascending, that leads to no slice: the holder of a port for each slice that a
+    /// machine may have asks for nothing through those of the slices that it doesn't have.
     pub fn idle_ports(
         alloc: Global,
         cores: usize,

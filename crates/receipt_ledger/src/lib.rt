@@ -10,7 +10,7 @@
 //! each port has a [`Shares`], which takes no bytes: `Books::accept` and `Books::hand` change both, so the shares of all
 //! ports add up to the books, as `Books::audit` says. Which ledgers these are, and of which slice of which configuration,
 //! is named by the type ([`SliceNames`]). Contracts see a `Books` as its `Totals` and a `Shares` as its `Amounts`
-//! (`specs/Totals.antt`). No call of these takes memory, and none does anything at run time but finding the place of a
+//! (`specs/Totals.antt`). None of these calls allocates, and none does anything at run time but finding the place of a
 //! word.
 //!
 //! - [`Book::open`] makes a slice, its book and a port for each core; [`Port::idle_ports`] makes ports for a slice that

@@ -39,7 +39,7 @@ impl<N: SliceNames> Model for Port<N> {
 }
 
 impl<N: SliceNames> Port<N> {
-    /// Whose port it is.
+    /// Returns the core whose port it is.
     pub fn core(&self) -> CoreId
         ensures core { result ≡ self.now.core }
         ensures known { result.0 < N.setup.cores }
@@ -47,7 +47,7 @@ impl<N: SliceNames> Port<N> {
         self.core
     }
 
-    /// Which slice it leads to.
+    /// Returns the slice that it leads to.
     pub fn slice(&self) -> SliceId
         ensures slice { result ≡ self.now.slice }
         ensures named { result.0 ≡ N.number }
@@ -55,7 +55,7 @@ impl<N: SliceNames> Port<N> {
         self.slice
     }
 
-    /// How many requests were accepted through it.
+    /// Returns how many requests were accepted through it.
     pub fn accepted(&self) -> u64
         ensures accepted { result ≡ length self.now.asked }
         ensures fewer { length self.now.receipts ≤ result }
@@ -185,7 +185,7 @@ impl<N: SliceNames> Port<N> {
         });
     }
 
-    /// Takes notice of the entry of the log with this number.
+    /// Learns of the entry of the log with this number.
     pub(crate) fn learn(&mut self, log: &[Entry], number: u64)
         requires { number < length log.now }
         ensures { self.new ≡ with_seen self.old number }
@@ -194,7 +194,7 @@ impl<N: SliceNames> Port<N> {
         self.seen = self.seen.max(seen);
     }
 
-    /// The last of its receipts.
+    /// Returns the last of its receipts.
     pub fn last(&self) -> Receipt
         requires some { 0 < length self.now.receipts }
         ensures { IsLastOf self.now.receipts result }

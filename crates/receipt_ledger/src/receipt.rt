@@ -34,8 +34,8 @@ pub enum Answer {
 }
 
 impl Answer {
-    /// The answer to a request that wasn't done at once. It isn't inlined, so that a caller whose request was done at
-    /// once prepares no room for these answers.
+    /// Returns the answer to a request that wasn't done at once. It isn't inlined, so that a caller whose request was
+    /// done at once prepares no room for these answers.
     #[inline(never)]
     pub fn of_undone(asked: Result<Issue, Refused>) -> Result<Answer, Refused>
         requires { IsUndone asked }

@@ -21,7 +21,7 @@ use slice_core::SliceState;
 
 impl<N: SliceNames> Book<N> {
     /// Settles a quiet slice with all its ports: the value of each of its counters, ascending by word. There is none
-    /// where the ports' requests and receipts aren't the slice's log. It takes no memory, and leaves the ports as they
+    /// where the ports' requests and receipts aren't the slice's log. It allocates nothing and leaves the ports as they
     /// were.
     pub fn settle<F: MissFile, T: Lends<Port<N>, K>, const K: usize>(
         &mut self,

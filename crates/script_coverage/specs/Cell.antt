@@ -76,7 +76,7 @@ outcome_of_plan (deliveries.Moved transition) = Some (outcomes.To (state_after t
 outcome_of_plan deliveries.Blocked = Some outcomes.Blocked
 outcome_of_plan plan = None
 
--- What an access does. One that stalls for want of room meets no cell: it never comes to the table.
+-- What an access does. One that stalls for lack of room meets no cell: it never comes to the table.
 abbrev pub outcome_of_access : AccessKind → Option Outcome
 outcome_of_access (access_kinds.Hit way next silent) = Some (outcomes.To (table_states.Cache next))
 outcome_of_access (access_kinds.PrimaryMiss next ask placement) = Some (outcomes.To (table_states.Cache next))

@@ -14,7 +14,7 @@ use Rattle.script_coverage.specs.declared.table_cell.TableState.TheVariants as s
 -- ---- the cells of a setting
 
 -- With the exclusive state alone there are E and Data-E, and a reader may become the owner, to which requests are
--- forwarded; a line that nobody has is given to a reader as the only copy then, and else to share.
+-- forwarded; a line that no core has is given to a reader as the only copy then, and else to share.
 abbrev pub is_met_at : Bool → TableState → TableEvent → Outcome → Bool
 is_met_at exclusive (states.Cache copy_states.E) event outcome = exclusive
 is_met_at exclusive state events.DataE outcome = exclusive
@@ -38,7 +38,7 @@ listed (Some exclusive) cell = if is_met exclusive cell then Some 0 else None
 abbrev pub had : List (Option ℕ) → ℕ → ℕ
 had counts cell = unwrap_or (slice_index_or counts cell None) 0
 
--- .. so many times more
+-- .. `times` times more
 abbrev pub counted : List (Option ℕ) → ℕ → ℕ → List (Option ℕ)
 counted counts cell times = slice_set counts cell (Some (had counts cell + times))
 
@@ -60,7 +60,7 @@ sums [] more = []
 sums (count ∷ counts) [] = count ∷ counts
 sums (count ∷ counts) (other ∷ more) = sum_of count other ∷ sums counts more
 
--- The sum of this cell would be too much: those of the cells before it stand in the place of their counts.
+-- The sum of this cell would be too much: those of the cells before it have replaced their counts.
 pub record IsTooOften (old more new : List (Option ℕ)) : Type 0 where
   pub cell : ℕ
   pub over : 2 ^ 64 ≤ had old cell + had more cell

@@ -17,7 +17,7 @@ pub record IsCountedOn (config : Config) (bound : Bound) (commands : List (ℕ �
   pub played : IsPlayedOn Notingly config bound commands (Some []) (Some numbers)
   pub counted : counts ≡ counted_all (map (listed (Some config.exclusive)) CELLS) numbers
 
--- the counts of a script; of one that says nothing, no cell is listed
+-- the counts of a script; of an empty one, no cell is listed
 abbrev pub IsCoverage : List (ℕ × List (List ℕ)) → List (Option ℕ) → Type 0
 IsCoverage all counts =
     ((all ≡ []) × (counts ≡ map (listed None) CELLS))

@@ -1,4 +1,4 @@
--- A text of counts: its first line, and then a line for each cell that is listed, which says how often it was met.
+-- A text of counts: its first line, and then a line for each cell that is listed, with how often it was met.
 use Rattle.std.specs.Prelude.{◌≡◌, ◌⊎◌, ℕ, ◌+◌, ◌<◌, ◌≤◌, ◌^◌, List, [], ◌∷◌, codes, Some, slice_get}
 use Rattle.litmus_text.specs.Form.{Part, Writes, key, num}
 use Rattle.script_coverage.specs.Counts.{counted, had}
@@ -43,14 +43,14 @@ pub record IsCount (words : List (List ℕ)) (number times : ℕ) : Type 0 where
 abbrev pub IsNoCount : List (List ℕ) → Type 0
 IsNoCount words = (number times : ℕ) → ¬ IsCount words number times
 
--- A line is read: the count that it says is added. The first may stand again, where texts are put together.
+-- A line is read: the count in it is added. The first line may come again, where texts are put together.
 abbrev pub AddsLine : List (List ℕ) → List (Option ℕ) → List (Option ℕ) → Type 0
 AddsLine words old new =
     (Writes words parts_of_head × (new ≡ old))
     ⊎ ((cell : ℕ) × (times : ℕ) × IsCount words cell times × (had old cell + times < 2 ^ 64)
     × (new ≡ counted old cell times))
 
--- .. or is at fault: it says no count, or one that is too much
+-- .. or is at fault: it has no count, or one that is too much
 abbrev pub IsFaultOfLine : List (List ℕ) → List (Option ℕ) → CoverageFault → Type 0
 IsFaultOfLine words old faults.NotACoverage = ⊥
 IsFaultOfLine words old faults.TooOften =

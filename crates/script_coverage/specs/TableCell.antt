@@ -1,4 +1,4 @@
--- What a cell is called.
+-- The names of a cell.
 use Rattle.std.specs.Prelude.{ℕ, List, [], ◌∷◌, codes}
 use Rattle.cache_table.specs.Name.{name_of as name_of_copy}
 use Rattle.directory_table.specs.Name.{name_of as name_of_entry}

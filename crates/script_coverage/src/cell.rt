@@ -12,7 +12,7 @@ use slice_core_spec::{Decision, Plan, Transition};
 use slice_queues::{DataMessage, ForwardedMessage, Message, RequestMessage};
 use slice_text::{Case, Event, Who};
 
-/// The cell of a step, if it met one.
+/// Returns the cell of a step, if it met one.
 pub fn cell_of(step: &Step) -> Option<Cell>
     ensures { result ≡ cell_of step.now }
 {
@@ -43,7 +43,7 @@ pub(crate) fn cell_of_delivery(delivery: &DeliveryStep) -> Option<Cell>
     }
 }
 
-/// The cell of a case, where it has this outcome.
+/// Returns the cell of a case, if it has this outcome.
 pub fn cell_at(case: Case, outcome: Option<Outcome>) -> Option<Cell>
     ensures { result ≡ cell_at case outcome }
 {
@@ -107,7 +107,7 @@ const fn state_after(transition: Transition) -> TableState
     }
 }
 
-/// What is planned for a message.
+/// Returns what is planned for a message.
 pub const fn outcome_of_plan(plan: Plan) -> Option<Outcome>
     ensures { result ≡ outcome_of_plan plan }
 {
@@ -118,7 +118,7 @@ pub const fn outcome_of_plan(plan: Plan) -> Option<Outcome>
     }
 }
 
-/// What is decided of a request.
+/// Returns what is decided of a request.
 pub const fn outcome_of_decision(decision: Decision) -> Option<Outcome>
     ensures { result ≡ outcome_of_decision decision }
 {

@@ -112,7 +112,7 @@ pub static CELLS: [Cell; 94] = [
 ];
 
 impl Cell {
-    /// Its place among the cells; none of one that can't be met.
+    /// Returns its place among the cells; none if it can't be met.
     pub fn number(self) -> Option<u8>
         ensures found { IfSome result (λ number. slice_get CELLS number ≡ Some self) }
         ensures none { IfNone result ((number : ℕ) → ¬ (slice_get CELLS number ≡ Some self)) }

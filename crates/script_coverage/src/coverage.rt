@@ -40,7 +40,7 @@ impl Coverage {
         Ok(Coverage { counts })
     }
 
-    /// Adds so many times to the count of the cell with this number.
+    /// Adds `times` to the count of the cell with this number.
     pub fn add(&mut self, cell: usize, times: u64) -> Result<(), TooOften>
         ensures added { OnOk result (self.new ≡ counted self.old cell times) }
         ensures fits { OnOk result (had self.old cell + times < 2 ^ 64) }
@@ -101,7 +101,7 @@ impl Coverage {
 impl Cell {
     ghost use Rattle.script_coverage.specs.Counts.{is_met};
 
-    /// What is listed of it before the first step.
+    /// Returns what is listed of it before the first step.
     const fn listed(&self, exclusive: Option<bool>) -> Option<u64>
         ensures { result ≡ listed exclusive self.now }
     {

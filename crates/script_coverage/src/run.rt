@@ -75,7 +75,7 @@ fn counts_of(alloc: Global, exclusive: bool, numbers: &[u8]) -> Result<Coverage,
     let mut coverage = Coverage::new(alloc, Some(exclusive))?;
     match coverage.add_each(numbers) {
         Ok(()) => Ok(coverage),
-        // so many steps are in no memory
+        // 2^64 steps fit no memory
         Err(_) => Err(TextFault::NoMemory),
     }
 }
@@ -98,7 +98,7 @@ fn trail_of(alloc: Global, script: Script<'_>) -> Result<Vec<u8>, TextFault>
     let mut trail = Vec::new(alloc);
     match play_steps(alloc, machine, Noting, commands, &mut trail) {
         Ok(()) => Ok(trail),
-        // writing to memory fails for want of it
+        // writing to memory fails when there is none left
         Err(TextFault::CannotWrite) => Err(TextFault::NoMemory),
         Err(fault) => Err(fault),
     }

@@ -10,7 +10,7 @@
 //!
 //! [`run_beside`] writes the lines of each answer next to the command's own line (specs/Rows.antt).
 //!
-//! [`delivery_text`] is the command of a delivery. [`expected`] says of a line at fault which word fits nothing, and what
+//! [`delivery_text`] is a delivery's command. [`expected`] reports the word of a line at fault that fits nothing, and
 //! what could be there.
 #![tactic(auto)]
 

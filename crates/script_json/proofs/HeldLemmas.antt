@@ -1,4 +1,4 @@
--- Which lines and copies are told of.
+-- Which lines and copies are shown.
 use Rattle.std.proofs.Common.{◌≡◌, ◌∙◌, ◌&&◌, not, is_some, false, Bool, ℕ, ap, sym, refl, List, [], ◌∷◌, map, length}
 use Rattle.std.proofs.Common.{Option, Some, None, slice_get}
 use Rattle.std.specs.List.{list_all}
@@ -43,7 +43,7 @@ moving_shown v (Some local) view b (given, same, dir, owner, sharers, home, copi
     ∙ ap (λ (d : DirState). is_idle d && list_all is_gone view.copies.items) of_dir
     ∙ ap (λ (xs : List CopyState). is_idle (entry_at v local).state && list_all is_gone xs) of_copies)
 
--- a line of another slice is told by nothing
+-- a line of another slice isn't moving
 pub moving_none : (v : View) (local : Option Local) (shown : Option LineView) → ShowsLine v local shown → shown ≡ None
     → false ≡ is_moving v local
 moving_none v None shown shows none = refl

@@ -20,7 +20,7 @@ use Rattle.slice_json.specs.Line.{text_of_line}
 use Rattle.slice_queues.specs.Waiting.{line_waiting}
 use Rattle.slice_text.specs.Shown.{rests}
 
--- a text, if it is one of those that are told
+-- a text, if it is one of those that are shown
 abbrev pub text_if : Bool → List ℕ → List (List ℕ)
 text_if told text = if told then text ∷ [] else []
 

@@ -1,4 +1,4 @@
--- Slices as data: what `show` tells of each besides its lines.
+-- Slices as data: what `show` prints of each besides its lines.
 use Rattle.std.specs.Prelude.{ℕ, ◌+◌, ◌*◌, ◌/◌, ◌%◌, List, [], ◌∷◌, ◌++◌, codes, decimal, slice_get, Option, Some, None}
 use Rattle.std.specs.List.{flat_map, range_with_len}
 use Rattle.address_map.specs.declared.address.LineAddr.{LineAddr}
@@ -44,7 +44,7 @@ list_of_ring p lines = with_commas (flat_map (λ place. ring_at (slice_get (ring
 abbrev pub text_of_number : ℕ → List ℕ
 text_of_number number = codes "{\"slice\":" ++ decimal number ++ codes ",\"replies\":["
 
--- a slice of this number, in a machine of so many cores and lines
+-- a slice of this number, in a machine of `cores` cores and `lines` lines
 abbrev pub text_of_slice : ℕ → ℕ → ℕ → PartsView → List ℕ
 text_of_slice cores lines number p =
     text_of_number number ++ (list_of_replies p.view cores ++ (codes "],\"ring\":[" ++ (list_of_ring p lines ++ codes "]}")))

@@ -1,4 +1,4 @@
--- The texts of which values of JSON (RFC 8259) are made.
+-- The texts that make up values of JSON (RFC 8259).
 use Rattle.std.specs.Prelude.{ℕ, ◌==◌, ◌&&◌, Bool, false, not, nat_le, List, [], ◌∷◌, ◌++◌, codes, if◌then◌else◌, length}
 use Rattle.std.specs.List.{flat_map, list_all}
 
@@ -15,7 +15,7 @@ quoted text = codes "\"" ++ flat_map escaped text ++ codes "\""
 abbrev pub is_digit : ℕ → Bool
 is_digit byte = nat_le 48 byte && nat_le byte 57
 
--- a digit alone, or digits of which the first isn't 0
+-- a single digit, or digits that don't begin with 0
 abbrev pub is_number : List ℕ → Bool
 is_number [] = false
 is_number (first ∷ []) = is_digit first

@@ -6,7 +6,7 @@ use Rattle.litmus_text.specs.declared.command.Command.{Command}
 use Rattle.script_json.specs.Call.{text_of_call}
 use Rattle.script_json.specs.Text.{quoted, value_of}
 
--- what happened after an answer, where that is told
+-- what happened after an answer, if that is reported
 abbrev pub happened_of : Option (List ℕ) → List ℕ
 happened_of None = []
 happened_of (Some told) = codes ",\"happened\":" ++ quoted told

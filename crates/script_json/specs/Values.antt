@@ -48,7 +48,7 @@ pub record ValueOfEviction (step : EvictionStep) (v : View) (before after : Opti
       (Some (text_of_eviction step.eviction
       ++ text_of_copies (named_by_answer step.eviction.answer) v step.core numbers)))
 
--- what keeps a slice from being quiet is told where a word isn't shown for it
+-- what keeps a slice from being quiet is reported where a word isn't shown for it
 abbrev pub unrest_of : Option ℕ → Option Unrest → Option (List ℕ)
 unrest_of None (Some unrest) = Some (text_of_unrest unrest)
 unrest_of shown unrest = None
@@ -86,7 +86,7 @@ Values config slices line (steps.Pump calls pumped) before after =
 Values config slices line (steps.Show command text) before after =
     Appends before after (items_shown config slices command text.items)
 
--- a delivery of a pump, after which stands another or what is left
+-- a delivery of a pump, followed by another or by what is left
 abbrev pub ValuesNext : WritingNext
 ValuesNext config slices delivery before after =
     Appends before after (item_of (members_of_made delivery.pick) (Some (told_of_delivery delivery.told)) ++ codes ",")

@@ -17,7 +17,7 @@ use slice_core::{CopyState, DirState, LineView, LineWaiting, SliceState};
 use slice_json::{write_copy_in, write_line_in};
 use std::fmt;
 
-/// Which lines are told of.
+/// Which lines are shown.
 #[derive(Clone, Copy)]
 pub(crate) enum Choice {
     /// Those with a message that waits.

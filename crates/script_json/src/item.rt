@@ -19,7 +19,7 @@ use stats_report::{Cut, write_text};
 use std::fmt;
 use std::io::Write;
 
-/// Writes what became of a command, and what happened after it, where that is told.
+/// Writes what became of a command, and what happened after it, if that is reported.
 pub(crate) fn write_item<W: Write>(
     answer: Answer,
     told: Option<&[u8]>,

@@ -40,7 +40,7 @@ impl<P: Player> Player for Lister<P> {
             .play(statement, command, &mut self.items)
             .is_err()
         {
-            // writing to memory fails for want of it
+            // writing to memory fails when there is none left
             return Err(TextFault::NoMemory);
         }
         let number = statement.number as u64;

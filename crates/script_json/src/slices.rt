@@ -1,4 +1,4 @@
-//! Slices as data: what `show` tells of each besides its lines.
+//! Slices as data: what `show` prints of each besides its lines.
 ghost use Rattle.std.specs.Prelude.{◌≡◌, ◌*◌, ◌/◌, ◌<◌, ◌≤◌, OnOk, decimal, length};
 ghost use Rattle.std.specs.Fmt.{WritesInCalls};
 ghost use Rattle.litmus_text.specs.JsonList.{with_commas};

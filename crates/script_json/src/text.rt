@@ -1,4 +1,4 @@
-//! The texts of which the values are made.
+//! The texts that make up the values.
 ghost use Rattle.std.specs.Prelude.{◌≡◌, OnOk, map};
 ghost use Rattle.std.specs.Io.KnownBytes.{Appends};
 ghost use Rattle.std.specs.List.{flat_map, list_all};

@@ -59,7 +59,7 @@ pub(crate) fn length_of_evicted(alloc: Global, evicted: Evicted) -> Result<usize
     Ok(text.len())
 }
 
-/// What a line tells after an answer of this length.
+/// Returns what a line reports after an answer of this length.
 pub(crate) fn behind(line: &[u8], answer: usize) -> &[u8]
     ensures { (said told : List ℕ) → answer ≡ length said
         → line.now ≡ (said ++ codes "   " ++ told) ++ codes "\n" → result.now ≡ told }

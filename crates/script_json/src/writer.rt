@@ -1,4 +1,4 @@
-//! What writes the items of answers.
+//! Writes the items of answers.
 ghost use Rattle.std.specs.Prelude.{◌≡◌, ◌++◌, ◌%◌, [], IfErr, IfOk, OnOk, Some, None, codes};
 ghost use Rattle.std.specs.Io.KnownBytes.{Appends};
 ghost use Rattle.address_map.specs.Place.{line_of as line_of_word};
@@ -130,7 +130,7 @@ impl ValueWriter {
         let explaining = Explaining { alloc: self.alloc };
         match explaining.write(machine, statement, step, &mut line) {
             Ok(()) => Ok(line),
-            // writing to memory fails for want of it
+            // writing to memory fails when there is none left
             Err(_) => Err(TextFault::NoMemory),
         }
     }
@@ -185,7 +185,7 @@ impl ValueWriter {
     }
 }
 
-/// Writes a delivery that a pump made. After it stands another, or what is left.
+/// Writes a delivery that a pump made. It is followed by another, or by what is left.
 fn write_made<W: Write>(pick: Pick, told: &[u8], out: &mut W) -> Result<(), TextFault>
     ensures written { OnOk result (Appends (W.contents out.old) (W.contents out.new)
         (item_of (members_of_made pick) (Some told.now) ++ codes ",")) }

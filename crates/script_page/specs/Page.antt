@@ -84,7 +84,7 @@ pub record PageStopsAt (config : Config) (commands : List (ℕ × List (List ℕ
   pub last : Option (List ℕ)
   pub stopped : PlaysUpTo (Steps config) config commands start first last fault
 
--- why a page has not all of its script: as in scripts, or it couldn't be written
+-- why a page lacks a part of its script: as in scripts, or it couldn't be written
 abbrev pub IsPageFault : List (ℕ × List (List ℕ)) → TextFault → Type 0
 IsPageFault all fault =
     IsNotConfigured all fault ⊎ IsOfRun fault

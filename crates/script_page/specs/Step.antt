@@ -68,7 +68,7 @@ no_changes = codes "\"line\":null,\"victim\":null,\"performed\":null,\"next\":nu
 abbrev pub text_of_next : Delivery Pick → List ℕ
 text_of_next next = codes ",\"next\":" ++ calls.text_of_next next ++ codes ",\"core\":"
 
--- the line that the command is about and one that can have left for it, the accesses that were performed, and the
+-- the command's line and one that can have been evicted for it, the accesses that were performed, and the
 -- delivery that the slice would choose next
 abbrev pub text_of_lines : Scope → Step → PartsView → List ℕ
 text_of_lines scope step p =

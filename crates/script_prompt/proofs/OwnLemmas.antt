@@ -211,7 +211,7 @@ next_fault config text (word ∷ words) some fault h =
     (λ n form. form) (λ n w. w)
     (λ n w. w) (λ n has. has) (λ slice w. HasForm-Writes (text word ∷ map text words) (parts_of_slice slice) w) fault h)
 
--- ---- words after which nothing stands
+-- ---- words that nothing follows
 
 pub undo_fault : (config : Config) (words : List (List ℕ)) (fault : LineFault) → IsFormFaultOf no_parts words fault
     → IsFaultOfOwn config (codes "undo" ∷ words) fault
@@ -231,15 +231,15 @@ quit_fault config words =
     behind_word config (codes "quit") words no_parts (λ nothing. Unit {0}) (λ nothing. owns.Quit)
     (λ P h. only_quit words P (h tt)) (λ nothing. refl) (λ nothing has. tt)
 
--- ---- after `save` stands one name
+-- ---- one name follows `save`
 
--- nothing stands there
+-- nothing follows
 pub save_alone : (config : Config) → IsFaultOfOwn config (codes "save" ∷ []) line_faults.NotACommand
 unfolding IsFaultOf
 save_alone config =
     λ own f. only_save [] (λ o. HasForm (codes "save" ∷ []) (parts_of o) → ⊥) (λ name form. form.1) own f f
 
--- more stands there
+-- more follows
 pub save_more : (config : Config) (name : List ℕ) (more : List (List ℕ)) (fault : LineFault)
     → IsFormFaultOf no_parts more fault → IsFaultOfOwn config (codes "save" ∷ name ∷ more) fault
 unfolding IsFaultOf

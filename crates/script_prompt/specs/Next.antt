@@ -8,8 +8,8 @@ use Rattle.slice_answer.specs.declared.answer.Delivery.TheVariants as deliveries
 use Rattle.slice_answer.specs.declared.answer.Delivery.{Delivery}
 use Rattle.slice_queues.specs.declared.channel.Pick.{Pick}
 
--- What is said of slices of which the first comes to this, and the others to that: the first delivery that can be made,
--- or else what is said of the first slice in which a message waits.
+-- What slices come to, where the first comes to this and the others to that: the first delivery that can be made,
+-- or else that of the first slice in which a message waits.
 abbrev pub or_next : Delivery Pick → Delivery Pick → Delivery Pick
 or_next deliveries.Nothing other = other
 or_next (deliveries.Moved pick) other = deliveries.Moved pick

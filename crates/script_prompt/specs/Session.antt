@@ -23,7 +23,7 @@ pub record PlaysLine (config : Config) (words : List (List ℕ)) (line : List �
   pub told : Explainingly config old line command before after new
   pub kept : new_script ≡ old_script ++ (line ++ codes "\n")
 
--- .. whatever stood printed before it
+-- .. whatever was printed before it
 abbrev pub IsPlayed : Config → List ℕ → List PartsView → List PartsView → List ℕ → List ℕ → Type 0
 IsPlayed config line old new old_script new_script =
     (command : Command) × (before : Option (List ℕ)) × (after : Option (List ℕ))
@@ -88,8 +88,8 @@ abbrev pub HasNothing : Option ℕ → List ℕ → Type 0
 HasNothing None script = script ≡ []
 HasNothing (Some part) script = length script ≤ part
 
--- The script is played anew without what stands from this byte on, or where none is named without some end. Where
--- nothing stands there nothing has changed.
+-- The script is played anew without what comes from this byte on, or where none is named without some end. If
+-- nothing is there nothing has changed.
 abbrev pub IsTakenBack : Option ℕ → Session → Session → Type 0
 IsTakenBack part old new =
     (HasNothing part (script_of old) × (new ≡ old))

@@ -1,4 +1,4 @@
-//! What helps with a line that can't be taken. No contract says what that is: `tests/suite/prompt.py` tries it.
+//! What helps with a line that can't be taken. No contract specifies it: `tests/suite/prompt.py` tests it.
 
 use super::help::HELP;
 use super::own::own_word;
@@ -8,7 +8,7 @@ use std::alloc::Global;
 use std::fmt;
 use std::str::from_utf8;
 
-/// What could stand in a line instead.
+/// What could be in a line instead.
 #[derive(Clone, Copy)]
 pub(crate) enum Hint<'a> {
     /// Lines of other words: this one's first word is none of the prompt's.
@@ -18,7 +18,7 @@ pub(crate) enum Hint<'a> {
     Misfit(Misfit<'a>),
 }
 
-/// What could stand in the last line of the text, which begins with this word and has this fault.
+/// Returns what could be in the last line of the text, which begins with this word and has this fault.
 pub(crate) fn hint_of<'a>(
     alloc: Global,
     text: &'a [u8],
@@ -36,7 +36,7 @@ pub(crate) fn hint_of<'a>(
     Some(Hint::Misfit(misfit))
 }
 
-// How lines of a word of the prompt's own are written, where this one isn't written so.
+// Returns how lines of a word of the prompt's own are written, if this one isn't written so.
 fn own_hint<'a>(name: &[u8], fault: LineFault) -> Option<Hint<'a>> {
     if let LineFault::OutOfRange = fault {
         return None;
@@ -45,7 +45,7 @@ fn own_hint<'a>(name: &[u8], fault: LineFault) -> Option<Hint<'a>> {
     Some(Hint::Usage(usage))
 }
 
-// How lines of this word are written, as the help says it.
+// Returns how lines of this word are written, as the help has it.
 fn usage_of(name: &str) -> Option<&'static str> {
     for line in HELP.lines() {
         let line = line.trim();
@@ -59,7 +59,7 @@ fn usage_of(name: &str) -> Option<&'static str> {
     None
 }
 
-// The number of the last line of a text that says something.
+// Returns the number of the last line of a text that has words.
 fn last_number(text: &[u8]) -> usize {
     let mut number = 0;
     for statement in Statements::of(text) {

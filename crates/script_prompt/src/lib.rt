@@ -4,7 +4,7 @@
 //!   answer, and has words of its own ([`Own`]): those play lines of a script too, which they show first.
 //! - [`Session`] is a machine with the script so far: each line that is played is kept, so that the script can be
 //!   saved, and be played anew without its last lines.
-//! - A [`Saver`] is who puts a text into a file.
+//! - A [`Saver`] puts a text into a file.
 #![tactic(auto)]
 
 pub use asked::{Asked, read_asked};

@@ -14,7 +14,7 @@ use slice_core::{Class, Decision, DeliveredNext, Refused, SliceState};
 /// How many tags a core has in a slice.
 const TAGS: u8 = 64;
 
-/// The lowest tag that the core has free in the slice of a word.
+/// Returns the lowest tag that the core has free in the slice of a word.
 pub(crate) fn free_tag(machine: &Machine, core: CoreId, op: Op, word: WordAddr) -> Option<u8>
     requires { HasCore machine.now.config core }
     ensures { HasAt machine.now.slices.items ((line_of word).0 % machine.now.config.slices)
@@ -44,7 +44,7 @@ const fn is_busy(decision: Decision) -> bool
     matches!(decision, Decision::Refuse(Refused::TagBusy))
 }
 
-/// The next delivery of the slice, or else that of the first slice that has one.
+/// Returns the next delivery of the slice, or else that of the first slice that has one.
 pub(crate) fn next(machine: &Machine, slice: Option<SliceId>) -> DeliveredNext
     ensures { result ≡ next_of machine.now.slices.items slice }
 {
@@ -67,7 +67,7 @@ fn next_of_all(slices: &[SliceState<EitherFile>]) -> DeliveredNext
     found
 }
 
-/// The next delivery where slices with the first one are followed by a slice with the other.
+/// Returns the next delivery where slices with the first one are followed by a slice with the other.
 const fn or_next(first: DeliveredNext, other: DeliveredNext) -> DeliveredNext
     ensures { result ≡ or_next first other }
 {

@@ -56,7 +56,7 @@ static WORDS: [(&[u8], Word); 9] = [
     (b"quit", Word::Quit),
 ];
 
-/// The word with this name.
+/// Returns the word with this name.
 pub(crate) fn own_word(name: &[u8]) -> Option<Word>
     ensures found { IfSome result (λ word. name.now ≡ name_of word) }
     ensures none { IfNone result ((word : Word) → name.now ≢ name_of word) }
@@ -64,7 +64,7 @@ pub(crate) fn own_word(name: &[u8]) -> Option<Word>
     value_named(&WORDS, name)
 }
 
-/// What the prompt does at this word with these other words after it, at a machine of this configuration.
+/// Returns what the prompt does at this word with these other words after it, at a machine of this configuration.
 pub(crate) fn read_own<'a>(
     config: &Checked,
     word: Word,
@@ -168,7 +168,7 @@ fn read_save<'a>(config: &Checked, rest: &[&'a [u8]]) -> Result<Own<'a>, LineFau
     Ok(Own::Save(file))
 }
 
-/// The slice with this number, where the machine has it.
+/// Returns the slice with this number, if the machine has it.
 fn slice_in(config: &Checked, number: u64) -> Result<SliceId, LineFault>
     ensures ok { OkIff result (number < config.now.slices) (record { 0 = number }) }
     ensures err { IfErr result (λ fault. fault ≡ LineFault.OutOfRange) }

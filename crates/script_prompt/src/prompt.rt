@@ -43,7 +43,7 @@ pub fn run_prompt<R: BufRead, W: Write, S: Saver>(
     Ok(0)
 }
 
-/// The text, whose last line has its end.
+/// Returns the text, with the end of its last line.
 fn with_end(alloc: Global, text: &[u8]) -> Result<Vec<u8>, TextFault>
     ensures { IfOk result (λ whole. whole.items ≡ with_end text.now) }
 {
@@ -75,7 +75,7 @@ fn show<W: Write>(mark: &str, out: &mut W) -> Result<(), TextFault> {
     }
 }
 
-/// The next line of the input with its end, or nothing where the input ends or can't be read.
+/// Returns the next line of the input with its end, or nothing if the input ends or can't be read.
 fn read_line<R: BufRead>(alloc: Global, input: &mut R) -> Result<Vec<u8>, TextFault> {
     let mut line = Vec::new(alloc);
     match input.read_until(b'\n', &mut line) {
@@ -94,7 +94,7 @@ struct Prompt {
 }
 
 impl Prompt {
-    /// Answers a line. Says whether the prompt goes on.
+    /// Answers a line. Returns whether the prompt goes on.
     fn answer<W: Write, S: Saver>(
         &mut self,
         line: &[u8],
@@ -138,7 +138,7 @@ impl Prompt {
         }
     }
 
-    /// Says what is wrong with a line, and what could stand in it.
+    /// Reports what is wrong with a line, and what could be in it.
     fn tell_line<W: Write>(
         &self,
         statement: &Statement<'_>,
@@ -231,7 +231,7 @@ impl Prompt {
     }
 }
 
-/// Where the last line of a text begins.
+/// Returns where the last line of a text begins.
 fn last_line(text: &[u8]) -> usize
     ensures { (result < length text.now) ⊎ (text.now ≡ []) }
 {
@@ -244,7 +244,7 @@ fn last_line(text: &[u8]) -> usize
     }
 }
 
-/// Says what is wrong with a line of the prompt. A fault that isn't the line's is handed on.
+/// Reports what is wrong with a line of the prompt. A fault that isn't the line's is passed on.
 fn tell<W: Write>(fault: TextFault, out: &mut W) -> Result<(), TextFault> {
     let mut answers = TextWriter { out };
     match fault {

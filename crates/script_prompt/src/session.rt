@@ -55,7 +55,7 @@ impl Session {
         }
     }
 
-    /// The machine of a script that says nothing.
+    /// Returns a session with the machine of an empty script.
     fn open_default(alloc: Global, script: Vec<u8>) -> Result<Self, TextFault>
         ensures script { IfOk result (λ session. script_of session ≡ script.items) }
         ensures after { IfOk result (λ session. statements_from 0 (lines script.items) ≡ [] → (before : Option (List ℕ))
@@ -68,7 +68,7 @@ impl Session {
         Ok(Session { player, script })
     }
 
-    /// The script so far.
+    /// Returns the script so far.
     pub fn script(&self) -> &[u8]
         ensures { result.now ≡ script_of self.now }
     {
@@ -81,7 +81,7 @@ impl Session {
         self.player.config()
     }
 
-    /// Answers a line that asks something of the machine: plays the lines of a script that it stands for. What any
+    /// Answers a line that asks something of the machine: plays the lines of a script that it means. What any
     /// other asks for is left to do.
     pub fn answer<'a, W: Write>(
         &mut self,
@@ -231,7 +231,7 @@ impl Session {
         })
     }
 
-    /// How many entries each slice's log has.
+    /// Returns how many entries each slice's log has.
     fn performed(&self) -> Result<Vec<usize>, TextFault> {
         let mut lengths = Vec::new(self.player.alloc);
         for state in &self.player.machine.slices {
@@ -240,7 +240,7 @@ impl Session {
         Ok(lengths)
     }
 
-    /// Hands out a reply for each entry by which a slice's log has grown since it was so long.
+    /// Hands out a reply for each entry that a slice's log has gained since its length was as in `before`.
     fn hand_out<W: Write>(&mut self, before: &[usize], out: &mut W) -> Result<(), TextFault>
         ensures config { self.new.player.machine.config ≡ self.old.player.machine.config }
         ensures plays { OnOk result (IsContinued self.old.player.machine.config self.old.player.machine.slices.items

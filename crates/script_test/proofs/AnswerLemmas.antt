@@ -20,7 +20,7 @@ module _ {P : Type 0} (slices : P → List PartsView) (config_in : P → Config)
     × IsPrinted (config_in old) command (slices old) (slices new) (Some []) (Some text)
     × (texts new ≡ texts old ++ text ∷ []))
     (config : Config) where
-  -- after the texts that were kept before stands one for each command
+  -- after the texts that were kept before comes one for each command
   pub all_answer : (commands : List (ℕ × List (List ℕ))) (old new : P) (before after : Option (List ℕ))
       → config_in old ≡ config
       → PlaysAll plays config commands old new before after

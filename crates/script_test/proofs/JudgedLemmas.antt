@@ -9,7 +9,7 @@ use Rattle.std.specs.Option.{option_to_list}
 use Rattle.script_test.specs.Judged.{BeginBehind, IsBefore, IsFirstUnlike, IsJudged, IsSame, IsUnlike, IsUnlikeFrom}
 use Rattle.script_test.specs.Judged.{Unlike}
 
--- after so many lines stands one that isn't in front of the next statement, or none
+-- after `n` lines comes one that isn't in front of the next statement, or none
 pub begin_behind : (answers wants : List (ℕ × List ℕ)) (n : ℕ) (d : ℕ × List ℕ) → 0 < length answers
     → ((e : ℕ × List ℕ) → n < length wants → (get_or answers 0 d).0 ≤ (get_or wants n e).0)
     → BeginBehind answers (drop n wants)
@@ -31,7 +31,7 @@ begin_behind_next u v next wants n d some at =
     (sym (get_or-map u next 0 d)) (at e inside))
 
 module _ {X : Type 0} (view : X → ℕ × List ℕ) (xs : List X) (i : ℕ) (d : X) where
-  -- those up to here stand before a line
+  -- those up to here come before a line
   pub below_more_lines : (line : ℕ) → ((k : ℕ) → k < i → (e : ℕ × List ℕ) → (get_or (map view xs) k e).0 < line)
       → i < length xs → (view (get_or xs i d)).0 < line
       → (k : ℕ) → k < i + 1 → (e : ℕ × List ℕ) → (get_or (map view xs) k e).0 < line

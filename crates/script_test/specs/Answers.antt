@@ -26,7 +26,7 @@ pub record AreAnswered (config : Config) (bound : Bound) (commands : List (ℕ �
   pub end : List PartsView
   pub answered : Answer config commands start end texts
 
--- The statements are a script that runs to its end, and its commands answer these texts. One that says nothing has
+-- The statements are a script that runs to its end, and its commands answer these texts. An empty script has
 -- none.
 abbrev pub AreAnswers : List (ℕ × List (List ℕ)) → List (List ℕ) → Type 0
 AreAnswers all texts =
@@ -34,7 +34,7 @@ AreAnswers all texts =
     ⊎ ((config : Config) × (bound : Bound) × (commands : List (ℕ × List (List ℕ)))
     × IsSetUp all config bound commands × AreAnswered config bound commands texts)
 
--- the text at place k: the first so many places have none
+-- the text at place k: the first `skipped` places have none
 abbrev pub text_at : ℕ → List (List ℕ) → ℕ → List ℕ
 text_at skipped texts k = if nat_lt k skipped then [] else slice_index_or texts (k - skipped) []
 

@@ -9,7 +9,7 @@ use Rattle.std.specs.Char.{is_ascii_whitespace}
 abbrev pub hides : Bool → ℕ → Bool
 hides hidden byte = not (byte == 10) && (hidden || byte == 61)
 
--- The script in a text: a blank stands for each byte that is hidden. So each line keeps its number, and a text without
+-- The script in a text: a blank replaces each byte that is hidden. So each line keeps its number, and a text without
 -- `=` is its own script.
 abbrev pub script_in : Bool → List ℕ → List ℕ
 script_in hidden [] = []

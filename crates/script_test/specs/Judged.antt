@@ -43,7 +43,7 @@ IsFirstUnlike at (want ∷ wants) (got ∷ more) unlike =
     (IsSame want.1 got × IsFirstUnlike at wants more unlike)
     ⊎ ((word : ℕ) × IsUnlikeFrom want.1 got word × (unlike ≡ Some (want.0, Some want.1, Some got, Some word)))
 
--- an answer of which nothing is wanted may be any; of another, all lines are wanted
+-- an answer without a wanted line may be any; of another, all lines are wanted
 abbrev pub IsUnlike : ℕ × List ℕ → List (ℕ × List ℕ) → Option Unlike → Type 0
 IsUnlike answer [] unlike = unlike ≡ None
 IsUnlike answer (want ∷ wants) unlike = IsFirstUnlike answer.0 (want ∷ wants) (lines answer.1) unlike
@@ -58,7 +58,7 @@ abbrev pub BeginBehind : List (ℕ × List ℕ) → List (ℕ × List ℕ) → T
 BeginBehind answers [] = Unit {0}
 BeginBehind answers (want ∷ wants) = ¬ IsBefore answers want
 
--- The differences of all answers, in order: of each the first, if there is one. What stands in a statement's line and in
+-- The differences of all answers, in order: of each the first, if there is one. What is in a statement's line and in
 -- the lines after it, up to the next statement, is wanted of it.
 abbrev pub IsJudged : List (ℕ × List ℕ) → List (ℕ × List ℕ) → List Unlike → Type 0
 IsJudged wants [] unlikes = unlikes ≡ []

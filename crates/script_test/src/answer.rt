@@ -14,7 +14,7 @@ pub struct Answer<'a> {
     pub text: &'a [u8],
 }
 
-/// The number of each statement of a script.
+/// Returns the number of each statement of a script.
 pub fn numbers_of(alloc: Global, script: &[u8]) -> Result<Vec<usize>, AllocError>
     ensures { IfOk result
         (λ numbers. numbers.items ≡ map (λ s. s.0) (statements_from 0 (lines script.now))) }

@@ -16,7 +16,7 @@ pub struct Want<'a> {
     pub text: &'a [u8],
 }
 
-/// The script in a text with wanted answers.
+/// Returns the script in a text with wanted answers.
 pub fn script_of(alloc: Global, text: &[u8]) -> Result<Vec<u8>, AllocError>
     ensures { IfOk result (λ script. script.items ≡ script_in false text.now) }
 {
@@ -29,7 +29,7 @@ pub fn script_of(alloc: Global, text: &[u8]) -> Result<Vec<u8>, AllocError>
     Ok(script)
 }
 
-/// What stands for a byte in the script.
+/// Returns what replaces a byte in the script.
 fn shown(hidden: bool, byte: u8) -> u8
     ensures { result ≡ (if hidden then 32 else byte) }
 {
@@ -43,7 +43,7 @@ fn hides(hidden: bool, byte: u8) -> bool
     byte != b'\n' && (hidden || byte == b'=')
 }
 
-/// The wanted lines of a text, in order.
+/// Returns the wanted lines of a text, in order.
 pub fn wants_of(alloc: Global, text: &[u8]) -> Result<Vec<Want<'_>>, AllocError>
     ensures { IfOk result
         (λ wants. map (λ w. (w.line, w.text.now)) wants.items ≡ wants_from 0 (lines text.now)) }
@@ -75,7 +75,7 @@ fn push_wanted<'a>(
     }
 }
 
-/// What a line wants.
+/// Returns what a line wants.
 fn wanted_in(line: &[u8]) -> Option<&[u8]>
     ensures { option_map (λ t. t.now) result ≡ wanted_in line.now }
 {
@@ -85,7 +85,7 @@ fn wanted_in(line: &[u8]) -> Option<&[u8]>
     behind_equals(line)
 }
 
-/// What follows the first `=` of a line.
+/// Returns what follows the first `=` of a line.
 fn behind_equals(line: &[u8]) -> Option<&[u8]>
     ensures { option_map (λ t. t.now) result ≡ behind_equals line.now }
 {

@@ -19,7 +19,7 @@ pub struct Difference<'a> {
     pub word: Option<usize>,
 }
 
-/// The differences of all answers, in order: of each answer the first.
+/// Returns the differences of all answers, in order: of each answer the first.
 pub fn judge<'a>(
     alloc: Global,
     wants: &'a [Want<'a>],
@@ -56,7 +56,7 @@ fn push_difference<'a>(
     }
 }
 
-/// How many of the wanted lines are in front of the next statement.
+/// Returns how many of the wanted lines are in front of the next statement.
 fn count_before(wants: &[Want<'_>], next: &[Answer<'_>]) -> usize
     ensures few { result ≤ length wants.now }
     ensures before { All (IsBefore (map (λ a. (a.line, a.text.now)) next.now))
@@ -70,7 +70,7 @@ fn count_before(wants: &[Want<'_>], next: &[Answer<'_>]) -> usize
     }
 }
 
-/// How many of the wanted lines, from the first on, stand before this one.
+/// Returns how many of the wanted lines, from the first on, come before this one.
 fn count_below(wants: &[Want<'_>], line: usize) -> usize
     ensures few { result ≤ length wants.now }
     ensures before { (k : ℕ) → k < result
@@ -86,7 +86,7 @@ fn count_below(wants: &[Want<'_>], line: usize) -> usize
     wants.len()
 }
 
-/// The first difference of an answer, of which these lines are wanted, or whatever comes.
+/// Returns the first difference of an answer from these wanted lines. If there are none, any answer is right.
 fn difference_of<'a>(answer: &Answer<'a>, wants: &'a [Want<'a>]) -> Option<Difference<'a>>
     ensures { IsUnlike (answer.now.line, answer.now.text.now) (map (λ w. (w.line, w.text.now)) wants.now)
         (option_map unlike_of result) }
@@ -97,7 +97,7 @@ fn difference_of<'a>(answer: &Answer<'a>, wants: &'a [Want<'a>]) -> Option<Diffe
     first_difference(answer.line, wants, answer.text)
 }
 
-/// The first place at which a text's lines aren't those that are wanted.
+/// Returns the first place at which a text's lines aren't those that are wanted.
 fn first_difference<'a>(
     line: usize,
     wants: &'a [Want<'a>],
@@ -139,7 +139,7 @@ fn first_difference<'a>(
     })
 }
 
-/// The first word, from 1, that isn't the same in two lines, if there is one.
+/// Returns the first word, from 1, that isn't the same in two lines, if there is one.
 fn unlike_word(wanted: &[u8], got: &[u8]) -> Option<usize>
     ensures { MatchOption result (IsSame wanted.now got.now) (IsUnlikeFrom wanted.now got.now) }
 {

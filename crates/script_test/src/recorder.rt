@@ -11,7 +11,7 @@ use litmus_text::{Command, Statement, TextFault};
 use std::alloc::Global;
 use std::io::Write;
 
-/// Plays a script, and answers what each of its commands prints.
+/// Plays a script, and returns what each of its commands prints.
 pub fn texts_of(alloc: Global, script: &[u8]) -> Result<Vec<Vec<u8>>, TextFault>
     ensures answers { IfOk result
         (λ texts. AreAnswers (statements_from 0 (lines script.now)) (map (λ t. t.items) texts.items)) }
@@ -79,7 +79,7 @@ impl Player for Recorder {
     ) -> Result<(), TextFault> {
         let mut text = Vec::new(self.alloc);
         let Ok(()) = self.machine.run(command, &mut text) else {
-            // writing to memory fails for want of it
+            // writing to memory fails when there is none left
             return Err(TextFault::NoMemory);
         };
         self.texts.push(text)?;

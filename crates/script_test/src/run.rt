@@ -33,7 +33,7 @@ pub fn run_test<W: Write>(
     print_judgement(wants.len(), differences.as_slice(), first, out)
 }
 
-/// Prints what a test comes to that wants so many lines.
+/// Prints the result of a test that wants `wanted` lines.
 fn print_judgement<W: Write>(
     wanted: usize,
     differences: &[Difference<'_>],
@@ -54,7 +54,7 @@ fn print_judgement<W: Write>(
     ended(write_differences(shown(differences, first), out), 1)
 }
 
-/// The differences that are printed: all, or the first alone.
+/// Returns the differences that are printed: all, or the first alone.
 fn shown<'a, 'b>(differences: &'a [Difference<'b>], first: bool) -> &'a [Difference<'b>]
     ensures { map unlike_of result.now ≡ shown first (map unlike_of differences.now) }
 {
@@ -64,7 +64,7 @@ fn shown<'a, 'b>(differences: &'a [Difference<'b>], first: bool) -> &'a [Differe
     differences
 }
 
-/// The status with which a run ends, where its text was written.
+/// Returns the status with which a run ends, if its text was written.
 fn ended(wrote: Result<(), Cut>, status: u8) -> Result<u8, TextFault>
     ensures status { IfOk result (λ s. (s ≡ status) × IsOk wrote) }
     ensures fault { IfErr result (λ fault. fault ≡ TextFault.CannotWrite) }

@@ -50,7 +50,7 @@ pub count_leaving : (v : View) (core : CoreId)
     → length (lines_of_core v core core_lines.Leaving) ≡ length (cache_at v core).buffer.write_backs
 count_leaving v core = length-map _ _ ∙ length-map _ _
 
--- so many of each are in use
+-- `registers`, `targets` and `leaving` are in use
 abbrev used : ℕ → ℕ → ℕ → InUse
 used registers targets leaving = record { registers = registers; targets = targets; write_backs = leaving }
 

@@ -14,7 +14,7 @@ name_of (signals.Copy core) = codes "core" ++ decimal core
 name_of signals.Channels = codes "in_flight"
 name_of signals.Total = codes "channels"
 
--- the code by which the file tells it from all others
+-- the code that identifies it in the file
 abbrev pub code_of : LineAddr → Signal → List ℕ
 code_of line signals.Directory = decimal line.0 ++ codes ".d"
 code_of line (signals.Copy core) = decimal line.0 ++ codes "." ++ decimal core
@@ -53,7 +53,7 @@ name_of_use uses.Registers = codes "registers"
 name_of_use uses.Targets = codes "targets"
 name_of_use uses.WriteBacks = codes "writebacks"
 
--- the code by which the file tells it from all others
+-- the code that identifies it in the file
 abbrev pub code_of_use : ℕ → ℕ → Use → List ℕ
 code_of_use slice core uses.Registers = codes "r" ++ decimal slice ++ codes "." ++ decimal core
 code_of_use slice core uses.Targets = codes "t" ++ decimal slice ++ codes "." ++ decimal core

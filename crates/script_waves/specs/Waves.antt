@@ -107,7 +107,7 @@ pub record IsWritten (cores slices : ℕ) (named : List LineAddr) (ticks : List 
   pub told : Appends first last ticks
   pub ended : Appends last after (text_of_time time)
 
--- The commands are played from these slices on. The signals of the lines that they name stand first, then what each
+-- The commands are played from these slices on. The signals of the lines that they name come first, then what each
 -- command made of them, and the time at which the last one's ends.
 pub record HasWaves (config : Config) (commands : List (ℕ × List (List ℕ))) (start : List PartsView)
     (before after : Option (List ℕ)) : Type 0 where
@@ -123,7 +123,7 @@ pub record IsWavesOf (config : Config) (bound : Bound) (commands : List (ℕ × 
   pub fresh : IsNewMachine config bound start
   pub waves : HasWaves config commands start before after
 
--- A script's waves. Those of one that says nothing have no value: nothing is played on the machine that it has then.
+-- A script's waves. Those of an empty script have no value: nothing is played on the machine that it has then.
 abbrev pub IsWaves : List (ℕ × List (List ℕ)) → Option (List ℕ) → Option (List ℕ) → Type 0
 IsWaves all before after =
     ((all ≡ []) × IsWritten default_config.cores default_config.slices [] [] 1 before after)

@@ -11,7 +11,7 @@ use litmus_text::{Lines, TextFault};
 use stats_report::{Cut, write_text};
 use std::io::Write;
 
-/// Writes the lines of values that differ from those that stood at their places before.
+/// Writes the lines of values that differ from those that were at their places before.
 pub(crate) fn write_changes<W: Write>(
     before: &[u8],
     values: &[u8],
@@ -56,7 +56,7 @@ fn write_change<W: Write>(before: Option<&[u8]>, value: &[u8], out: &mut W) -> R
     }
 }
 
-/// Whether the value stood there before.
+/// Whether the value was there before.
 fn is_told(before: Option<&[u8]>, value: &[u8]) -> bool
     ensures { result ≡ is_told (option_map (λ line. line.now) before.entry) value.now }
 {

@@ -1,4 +1,4 @@
-//! What stands before the values of the counts of cores.
+//! What comes before the values of the counts of cores.
 ghost use Rattle.std.specs.Prelude.{◌++◌, OnOk, codes, decimal};
 ghost use Rattle.std.specs.Fmt.{WritesInCalls};
 ghost use Rattle.std.specs.List.{flat_map, range_with_len};
@@ -8,7 +8,7 @@ use super::signal::{Use, UseCode};
 use std::fmt;
 use std::fmt::Write;
 
-/// Writes the signals of each core of so many slices.
+/// Writes the signals of `cores` cores in each of `slices` slices.
 pub(crate) fn write_slices<W: Write>(cores: usize, slices: usize, out: &mut W) -> fmt::Result
     ensures { OnOk result (WritesInCalls W.write_str_gives out.old (text_of_slices cores slices) out.new) }
 {

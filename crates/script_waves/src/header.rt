@@ -1,4 +1,4 @@
-//! What stands before the values.
+//! What comes before the values.
 ghost use Rattle.std.specs.Prelude.{OnOk, codes};
 ghost use Rattle.std.specs.Fmt.{WritesInCalls};
 ghost use Rattle.std.specs.List.{flat_map};

@@ -3,7 +3,7 @@
 //! [`run_waves`] plays a script as `litmus_script` does. The file has a signal for each copy, directory entry and set
 //! of channels of the lines that the script names, one for the command, and for each core and slice the numbers of miss
 //! registers, targets and entries of the write-back buffer in use. Each command is one unit of time, and so is each delivery
-//! of a pump: after it stands what it changed (specs/Changes.antt) of what the cores have in use (specs/InUse.antt), and of
+//! of a pump: after it is what it changed (specs/Changes.antt) of what the cores have in use (specs/InUse.antt), and of
 //! what the slices have of each line named so far (specs/Values.antt).
 #![tactic(auto)]
 

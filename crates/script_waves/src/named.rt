@@ -34,7 +34,7 @@ fn is_new(config: &Checked, line: LineAddr, named: &Vec<LineAddr>) -> bool
     line.0 < config.lines() as u64 && !named.contains(&line)
 }
 
-/// The line that a command is about, if it is about one.
+/// Returns the line that a command is about, if it is about one.
 fn line_named(command: Command) -> Option<LineAddr>
     ensures { result ≡ line_named command }
 {

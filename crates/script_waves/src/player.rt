@@ -1,4 +1,4 @@
-//! What plays a script's commands for waves.
+//! Plays a script's commands for waves.
 ghost use Rattle.std.specs.Prelude.{◌≡◌, ◌+◌, ◌++◌, ◌%◌, ◌^◌, [], IfErr, IfOk, OnOk, Some};
 ghost use Rattle.std.specs.Fmt.{WritesInCalls};
 ghost use Rattle.std.specs.Io.KnownBytes.{Appends};
@@ -35,7 +35,7 @@ pub(crate) struct Waved {
     pub(crate) played: u64,
     /// The values after the last command.
     pub(crate) values: Vec<u8>,
-    /// The room for an answer, which isn't shown.
+    /// The buffer for an answer, which isn't shown.
     answer: Vec<u8>,
     alloc: Global,
 }
@@ -262,7 +262,7 @@ impl Waved {
         self.answer.clear();
         match self.machine.run(command, &mut self.answer) {
             Ok(()) => Ok(()),
-            // writing to memory fails for want of it
+            // writing to memory fails when there is none left
             Err(_) => Err(TextFault::NoMemory),
         }
     }
@@ -280,7 +280,7 @@ impl Waved {
         note_line(&machine.config, command, named)
     }
 
-    /// The values that are now.
+    /// Returns the values that are now.
     fn look(&self) -> Result<Vec<u8>, TextFault>
         ensures values { IfOk result (λ values. values.items
             ≡ text_of_values self.now.machine.config self.now.machine.slices.items self.now.named.items) }
@@ -289,7 +289,7 @@ impl Waved {
         let mut values = Vec::new(self.alloc);
         match self.write_values(&mut values) {
             Ok(()) => Ok(values),
-            // writing to memory fails for want of it
+            // writing to memory fails when there is none left
             Err(_) => Err(TextFault::NoMemory),
         }
     }

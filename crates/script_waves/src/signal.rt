@@ -32,7 +32,7 @@ impl fmt::Display for Signal {
     }
 }
 
-/// The code by which the file tells a line's signal from all others.
+/// The code that identifies a line's signal in the file.
 #[derive(Clone, Copy)]
 pub(crate) struct Code {
     pub(crate) line: LineAddr,
@@ -83,7 +83,7 @@ impl fmt::Display for Use {
     }
 }
 
-/// The code by which the file tells it from all others.
+/// The code that identifies it in the file.
 #[derive(Clone, Copy)]
 pub(crate) struct UseCode {
     pub(crate) slice: usize,

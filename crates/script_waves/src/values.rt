@@ -63,7 +63,7 @@ fn write_mail<W: Write>(state: &SliceState<EitherFile>, line: LineAddr, out: &mu
     }
 }
 
-/// How many channels of a line have a message.
+/// Returns how many channels of a line have a message.
 fn total_at(state: &SliceState<EitherFile>, line: LineAddr) -> u64
     ensures { result ≡ total_of (waiting_of state.now.view (local_at state.now.view.lines line.0)) }
 {
@@ -73,7 +73,7 @@ fn total_at(state: &SliceState<EitherFile>, line: LineAddr) -> u64
     }
 }
 
-/// The channels of a line that have a message; none for a line that isn't the slice's.
+/// Returns the channels of a line that have a message; none for a line that isn't the slice's.
 fn waiting_at(state: &SliceState<EitherFile>, line: LineAddr) -> Option<LineWaiting<'_>>
     ensures none { IfNone result (waiting_of state.now.view (local_at state.now.view.lines line.0) ≡ []) }
     ensures some { IfSome result
@@ -82,7 +82,7 @@ fn waiting_at(state: &SliceState<EitherFile>, line: LineAddr) -> Option<LineWait
     state.waiting_at(line)
 }
 
-/// How many channels are left.
+/// Returns how many channels are left.
 fn count_left(left: &mut LineWaiting<'_>) -> u64
     ensures { result ≡ total_of left.old }
 {

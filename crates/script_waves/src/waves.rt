@@ -38,7 +38,7 @@ pub fn run_waves<W: Write>(alloc: Global, input: &[u8], out: &mut W) -> Result<u
     Ok(0)
 }
 
-/// The waves of a script that says nothing: the signals of its machine's cores, and no value.
+/// Writes the waves of an empty script: the signals of its machine's cores, and no value.
 fn waves_of_nothing<W: Write>(alloc: Global, out: &mut W) -> Result<(), TextFault>
     ensures written { OnOk result (IsWritten default_config.cores default_config.slices [] [] 1
         (W.contents out.old) (W.contents out.new)) }
@@ -81,7 +81,7 @@ fn waves<W: Write>(
     let mut ticks = Vec::new(alloc);
     match commands.play(&mut player, &mut ticks) {
         Ok(()) => write_all(&player, ticks.as_slice(), out),
-        // writing to memory fails for want of it
+        // writing to memory fails when there is none left
         Err(TextFault::CannotWrite) => Err(TextFault::NoMemory),
         Err(fault) => Err(fault),
     }

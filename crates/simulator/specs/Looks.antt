@@ -49,6 +49,6 @@ abbrev pub message_at : View → LineAddr → ℕ → Option (Pick × Message)
 message_at v line nth =
     option_and_then (λ channel. flight_at v (pick_at line channel)) (slice_get (waiting_at v line) nth)
 
--- how many there are, where a number can say that
+-- how many there are, if a number of 64 bits can count them
 abbrev pub IsCountOf : {X : Type 0} → ℕ → List X → Type 0
 IsCountOf count list = length list < 2 ^ 64 - 1 → count ≡ length list

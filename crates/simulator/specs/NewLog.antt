@@ -5,8 +5,8 @@ use Rattle.litmus_script.specs.Machine.{OneSlice}
 use Rattle.slice_core.specs.NewLog.{AfterBeginLog, BeginsAnewIf}
 use Rattle.slice_core_spec.specs.Calls.{PartsView}
 
--- the slice answered so, and left this; where it begins anew, to somebody who sees only requests and replies it is one
--- of which nothing was asked yet
+-- the slice answered so, and left this; where it begins anew, to an observer of requests and replies alone it is one
+-- for which nothing was asked yet
 pub record BeginsLog (answer : Result Bool AllocError) (old new : PartsView) : Type 0 where
   pub step : AfterBeginLog old answer new
   pub anew : BeginsAnewIf old answer new

@@ -62,7 +62,7 @@ pub(crate) fn of_delivery(state: &SliceState<EitherFile>, pick: Pick) -> Option<
     cell_at(case, outcome_of_plan(state.plan(pick)))
 }
 
-/// The case that the message in front of a channel meets.
+/// Returns the case that the message in front of a channel meets.
 fn case(state: &SliceState<EitherFile>, pick: Pick) -> Option<Case>
     ensures { result ≡ case_at 0 state.now.view pick }
 {
@@ -73,7 +73,7 @@ fn case(state: &SliceState<EitherFile>, pick: Pick) -> Option<Case>
     })
 }
 
-/// Who takes the messages of a channel.
+/// Returns who takes the messages of a channel.
 fn who(state: &SliceState<EitherFile>, pick: Pick) -> Who
     ensures { result ≡ who_takes 0 state.now.view pick }
 {
@@ -91,7 +91,7 @@ fn who(state: &SliceState<EitherFile>, pick: Pick) -> Who
     }
 }
 
-/// The state of a core's copy of a line.
+/// Returns the state of a core's copy of a line.
 fn copy(state: &SliceState<EitherFile>, line: LineAddr, core: CoreId) -> CopyState
     ensures { result ≡ copy_at state.now.view line core }
 {
@@ -104,7 +104,7 @@ fn copy(state: &SliceState<EitherFile>, line: LineAddr, core: CoreId) -> CopySta
     }
 }
 
-/// The state of the directory's entry of a line.
+/// Returns the state of the directory's entry of a line.
 fn entry(state: &SliceState<EitherFile>, line: LineAddr) -> DirState
     ensures { result ≡ entry_of state.now.view line }
 {

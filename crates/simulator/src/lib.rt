@@ -1,7 +1,7 @@
 //! The machine of a script, call by call.
 //!
 //! - [`Simulator`] is a machine with either kind of miss file. Its calls do what the commands of a script do, and each
-//!   contract says the promise of the slice's own call again (`slice_core_spec`); the others say what a call would do,
+//!   contract restates the promise of the slice's own call (`slice_core_spec`); the others report what a call would do,
 //!   which cell of the protocol's tables it would meet (specs/Cells.antt), and what there is. [`Simulator::build`] takes
 //!   what the lines of a script configure.
 //!

@@ -18,7 +18,7 @@ pub struct MissRegister {
     pub targets: usize,
 }
 
-/// The core's miss register at a place of their order.
+/// Returns the core's miss register at a place of their order.
 pub(crate) fn register_at(
     alloc: Global,
     state: &SliceState<EitherFile>,
@@ -35,7 +35,7 @@ pub(crate) fn register_at(
     }
 }
 
-/// The core's miss register for a line that it waits for.
+/// Returns the core's miss register for a line that it waits for.
 fn register_for(
     state: &SliceState<EitherFile>,
     core: CoreId,
@@ -53,7 +53,7 @@ fn register_for(
     })
 }
 
-/// How many channels of a line have a message.
+/// Returns how many channels of a line have a message.
 pub(crate) fn count_waiting(state: &SliceState<EitherFile>, line: LineAddr) -> u64
     ensures { IsCountOf result (waiting_at state.now.view line) }
 {
@@ -63,7 +63,7 @@ pub(crate) fn count_waiting(state: &SliceState<EitherFile>, line: LineAddr) -> u
     }
 }
 
-/// The message in front of one of a line's channels, at a place of their order, and its channel.
+/// Returns the message in front of one of a line's channels, at a place of their order, and its channel.
 pub(crate) fn message_at(
     state: &SliceState<EitherFile>,
     line: LineAddr,
@@ -83,7 +83,7 @@ fn flight_at(state: &SliceState<EitherFile>, pick: Pick) -> Option<(Pick, Messag
     Some((pick, message))
 }
 
-/// The channels of a line that have a message; none for a line that isn't the slice's.
+/// Returns the channels of a line that have a message; none for a line that isn't the slice's.
 fn waiting_at(state: &SliceState<EitherFile>, line: LineAddr) -> Option<LineWaiting<'_>>
     ensures none { IfNone result (waiting_at state.now.view line ≡ []) }
     ensures some { IfSome result (λ left. left ≡ waiting_at state.now.view line) }
@@ -91,7 +91,7 @@ fn waiting_at(state: &SliceState<EitherFile>, line: LineAddr) -> Option<LineWait
     state.waiting_at(line)
 }
 
-/// How many channels are left.
+/// Returns how many channels are left.
 fn count_left(left: &mut LineWaiting<'_>) -> u64
     ensures { IsCountOf result left.old }
 {
@@ -103,7 +103,7 @@ fn count_left(left: &mut LineWaiting<'_>) -> u64
     u64::MAX
 }
 
-/// The channel after so many others that are left.
+/// Returns the channel after `nth` others that are left.
 fn nth_left(left: &mut LineWaiting<'_>, nth: u64) -> Option<Channel>
     ensures { result ≡ slice_get left.old nth }
 {

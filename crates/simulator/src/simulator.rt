@@ -40,7 +40,7 @@ pub struct Simulator {
 }
 
 impl Simulator {
-    /// A machine of these settings, in which nothing was asked for yet.
+    /// Builds a machine of these settings, in which nothing was asked for yet.
     pub fn build(alloc: Global, settings: Settings) -> Result<Self, TextFault>
         ensures new { IfOk result (IsNewSimulator settings) }
         ensures fault { IfErr result (IsNotBuilt settings.config) }
@@ -51,7 +51,7 @@ impl Simulator {
         Ok(Simulator { machine })
     }
 
-    /// The same machine, in memory of its own: it goes on by itself.
+    /// Returns the same machine, in memory of its own: it goes on by itself.
     pub fn try_clone(&self) -> Result<Self, AllocError>
         ensures { IfOk result (IsCopyOf self.now) }
     {
@@ -65,7 +65,7 @@ impl Simulator {
         &self.machine.config
     }
 
-    /// The slice of a line. A remainder by a number that isn't known costs half as much as a hit.
+    /// Returns the slice of a line. A remainder by a number that isn't known costs half as much as a hit.
     #[inline(always)]
     fn slice_of(&self, line: LineAddr) -> usize
         ensures slice { result ≡ line.0 % (config_of self.now).slices }
@@ -142,7 +142,7 @@ impl Simulator {
         self.machine.slices[slice.0 as usize].begin_log(alloc)
     }
 
-    /// What [`Simulator::issue`] would decide of the request.
+    /// Returns what [`Simulator::issue`] would decide of the request.
     pub fn decide(&self, core: CoreId, request: Request) -> Decision
         requires { HasCore (config_of self.now) core }
         ensures { HasAt (slices_of self.now) ((line_of_word request.word).0 % (config_of self.now).slices)
@@ -151,7 +151,7 @@ impl Simulator {
         self.machine.slices[self.slice_of(request.word.line())].decide(core, request)
     }
 
-    /// What [`Simulator::deliver`] would do.
+    /// Returns what [`Simulator::deliver`] would do.
     pub fn plan(&self, pick: Pick) -> Plan
         ensures { HasAt (slices_of self.now) ((line_of pick).0 % (config_of self.now).slices)
             (λ state. result ≡ planned_at state.view pick) }
@@ -159,7 +159,7 @@ impl Simulator {
         self.machine.slices[self.slice_of(pick.line())].plan(pick)
     }
 
-    /// What [`Simulator::deliver_next`] would deliver.
+    /// Returns what [`Simulator::deliver_next`] would deliver.
     pub fn next(&self, slice: SliceId, class: Class) -> DeliveredNext
         requires { slice.0 < (config_of self.now).slices }
         ensures { HasAt (slices_of self.now) slice.0 (λ state. result ≡ next_pick state class) }
@@ -189,7 +189,7 @@ impl Simulator {
         }
     }
 
-    /// A core's copy of a line, also one that is being written back: none of a line that the memory doesn't have.
+    /// Returns a core's copy of a line, also one being written back: none of a line that the memory doesn't have.
     pub fn copy(&self, core: CoreId, line: LineAddr) -> Option<CacheCopy>
         requires { HasCore (config_of self.now) core }
         ensures { HasAt (slices_of self.now) (line.0 % (config_of self.now).slices)
@@ -198,14 +198,14 @@ impl Simulator {
         self.machine.slices[self.slice_of(line)].copy(core, line)
     }
 
-    /// What its slice has of a line: none for a line that the memory doesn't have.
+    /// Returns what its slice has of a line: none for a line that the memory doesn't have.
     pub fn line(&self, line: LineAddr) -> Option<LineView>
         ensures { IsLineView (slices_of self.now) (line.0 % (config_of self.now).slices) line result }
     {
         self.machine.view(line)
     }
 
-    /// The accesses of a core that wait for a line, the oldest first.
+    /// Returns the accesses of a core that wait for a line, the oldest first.
     pub fn targets(&self, core: CoreId, line: LineAddr) -> ArrayVec<Target, 64>
         requires { HasCore (config_of self.now) core }
         ensures { HasAt (slices_of self.now) (line.0 % (config_of self.now).slices)
@@ -214,7 +214,7 @@ impl Simulator {
         self.machine.slices[self.slice_of(line)].targets(core, line)
     }
 
-    /// The core's miss register at a place of their order in a slice.
+    /// Returns the core's miss register at a place of their order in a slice.
     pub fn register_at(
         &self,
         alloc: Global,
@@ -246,7 +246,7 @@ impl Simulator {
         self.machine.slices[slice.0 as usize].core_lines(alloc, core, which)
     }
 
-    /// The lines in the set of a line, in the order of their slots.
+    /// Returns the lines in the set of a line, in the order of their slots.
     pub fn set_lines(
         &self,
         alloc: Global,
@@ -260,7 +260,7 @@ impl Simulator {
         self.machine.slices[self.slice_of(line)].core_lines(alloc, core, CoreLines::InSetOf(line))
     }
 
-    /// How many channels of a line have a message.
+    /// Returns how many channels of a line have a message.
     pub fn count_waiting(&self, line: LineAddr) -> u64
         ensures { HasAt (slices_of self.now) (line.0 % (config_of self.now).slices)
             (λ state. IsCountOf result (waiting_at state.view line)) }
@@ -268,7 +268,7 @@ impl Simulator {
         looks::count_waiting(&self.machine.slices[self.slice_of(line)], line)
     }
 
-    /// The message in front of one of a line's channels, at a place of their order, and its channel.
+    /// Returns the message in front of one of a line's channels, at a place of their order, and its channel.
     pub fn message_at(&self, line: LineAddr, nth: u64) -> Option<(Pick, Message)>
         ensures { HasAt (slices_of self.now) (line.0 % (config_of self.now).slices)
             (λ state. result ≡ message_at state.view line nth) }
@@ -283,7 +283,7 @@ impl Simulator {
         self.machine.is_quiet()
     }
 
-    /// The value of a word of the memory, where its slice is quiet.
+    /// Returns the value of a word of the memory, if its slice is quiet.
     pub fn word(&self, word: WordAddr) -> Option<u64>
         requires { word.0 / 8 < (config_of self.now).lines }
         ensures { IsShownWord (slices_of self.now) (word.0 / 8 % (config_of self.now).slices) word result }
@@ -291,7 +291,7 @@ impl Simulator {
         self.machine.word_now(word)
     }
 
-    /// What a slice has counted.
+    /// Returns what a slice has counted.
     pub fn stats(&self, slice: SliceId) -> &Stats
         requires { slice.0 < (config_of self.now).slices }
         ensures { HasAt (slices_of self.now) slice.0 (λ state. result.now ≡ state.stats) }
@@ -299,7 +299,7 @@ impl Simulator {
         self.machine.slices[slice.0 as usize].stats()
     }
 
-    /// What a slice has performed, in order.
+    /// Returns what a slice has performed, in order.
     pub fn log(&self, slice: SliceId) -> &[Entry]
         ensures { result.now ≡ log_at (slices_of self.now) slice.0 }
     {

@@ -27,7 +27,7 @@ no_counts = record { hits = 0; primary = 0; secondary = 0; stalls = replicate 5 
 abbrev pub no_messages : MessageCounts
 no_messages = record { requests = 0; forwarded = 0; data_replies = 0; acknowledgements = 0; home = 0 }
 
--- a slice with so many cores that has done nothing
+-- a slice with `cores` cores that has done nothing
 abbrev pub no_stats : ℕ → Bool → StatsView
 no_stats cores exclusive = record { cores = replicate cores no_counts; messages = no_messages; exclusive = exclusive }
 

@@ -19,7 +19,7 @@ pub enum Refused {
     Memory,
     /// The word is of another slice.
     WrongSlice,
-    /// The log has so many entries, fewer than the core has seen of it: it isn't the log that the core saw.
+    /// The log has this many entries, fewer than the core has seen of it: it isn't the log that the core saw.
     Ahead(u64),
 }
 
@@ -82,7 +82,7 @@ pub enum Issue {
     Stall(Stall),
 }
 
-/// What became of an eviction that was asked for. All but `Evicting` change nothing.
+/// The result of an eviction. All but `Evicting` change nothing.
 #[derive(Clone, Copy, Debug, PartialEq, Eq)]
 pub enum Evicted {
     /// The line is on its way out.

@@ -85,8 +85,8 @@ impl Stats {
       after_message,
     };
 
-    /// The counts of a slice that has done nothing, with so many cores, of a machine with the exclusive state or
-    /// without it.
+    /// Returns the counts of a slice that has done nothing, with `cores` cores, of a machine with the exclusive state
+    /// or without it.
     pub fn new(alloc: Global, cores: usize, exclusive: bool) -> Result<Self, AllocError>
         ensures { IfOk result (λ stats. stats ≡ no_stats cores exclusive) }
     {

@@ -1,4 +1,4 @@
--- What the links give who calls a slice: a copy that waits for nothing has no request under way.
+-- What the links give a caller of a slice: a copy that waits for nothing has no request under way.
 use Rattle.std.proofs.Common.{◌≡◌, ◌<◌, true, length, None, inl, inr, ap}
 use Rattle.std.proofs.lemmas.Bool.{cases_lt}
 use Rattle.std.proofs.lemmas.List.{get_or_past}

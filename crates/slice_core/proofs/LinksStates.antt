@@ -193,7 +193,7 @@ comes_by_ack n k state next sent request =
 
 -- ---- settling
 
--- a shared copy waits where a write is left behind its loads
+-- a shared copy waits where a write is left after its loads
 shared-waits : (left : List Target) → is_waiting (settled_state copy_states.S left) ≡ is_waited left
 shared-waits [] = refl
 shared-waits (target ∷ targets) = refl

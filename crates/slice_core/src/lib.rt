@@ -10,7 +10,7 @@
 //! a list of calls; by `specs/Run.antt` it returns and leaves what its calls do one after another, and is one run of
 //! that machine.
 //!
-//! What a call would do can be asked before it is made, and that changes nothing and takes no memory:
+//! What a call would do can be asked before it is made, and that changes nothing and allocates nothing:
 //! [`SliceState::decide`] says what an access would be, [`SliceState::plan`] what a delivery would do,
 //! [`SliceState::next`] which pick of a class [`SliceState::deliver_next`] would deliver, [`SliceState::waiting`] goes
 //! through the picks with a message, and [`SliceState::waiting_at`] through the channels of one line that have one. A

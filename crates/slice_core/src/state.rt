@@ -82,7 +82,7 @@ impl<F: MissFile> SliceState<F> {
         })
     }
 
-    /// The same slice, in memory of its own.
+    /// Returns a copy of the slice, in memory of its own.
     pub fn try_clone(&self, alloc: Global) -> Result<Self, AllocError>
         ensures { IfOk result (λ copy. copy ≡ self.now) }
     {
@@ -92,8 +92,8 @@ impl<F: MissFile> SliceState<F> {
     }
 
     /// Accepts a request of a core, or says why not. A request that hits is performed and handed out by this call;
-    /// one that misses becomes a target, and waits for messages to be delivered. The log grows first, so that no other
-    /// call takes memory.
+    /// one that misses becomes a target, and waits for messages to be delivered. The log grows first, so that no
+    /// delivery, eviction or hand allocates.
     pub fn issue(&mut self, core: CoreId, request: Request) -> Result<Issue, Refused>
         requires { core.0 < length self.old.view.caches }
         ensures step { AfterIssue self.old core request result self.new }
@@ -155,7 +155,7 @@ impl<F: MissFile> SliceState<F> {
         self.parts.hand(core)
     }
 
-    /// Begins a new log where the slice is quiet, and changes nothing where it isn't, or where memory is lacking.
+    /// Begins a new log where the slice is quiet, and changes nothing where it isn't, or where an allocation fails.
     /// Returns whether it is quiet. Each word begins with the value that it has, and requests, entries and all that is
     /// counted are numbered from 0 again; copies stay where they are. So the memory of a long run is bounded.
     pub fn begin_log(&mut self, alloc: Global) -> Result<bool, AllocError>
@@ -206,14 +206,14 @@ impl<F: MissFile> SliceState<F> {
         }
     }
 
-    /// How many cores the slice knows.
+    /// Returns how many cores the slice knows.
     pub fn cores(&self) -> usize
         ensures { result ≡ length self.now.view.caches }
     {
         self.parts.caches().len()
     }
 
-    /// What was performed, in order.
+    /// Returns what was performed, in order.
     pub fn log(&self) -> &[Entry]
         ensures log { result.now ≡ self.now.view.log }
         ensures holds { Holds self.now }
@@ -221,14 +221,14 @@ impl<F: MissFile> SliceState<F> {
         self.parts.log()
     }
 
-    /// The configured initial values of the slice's words, ascending. Every other word began as 0.
+    /// Returns the configured initial values of the slice's words, ascending. Every other word began as 0.
     pub fn init(&self) -> &[(WordAddr, u64)]
         ensures { result.now ≡ self.now.view.init }
     {
         self.parts.init()
     }
 
-    /// What was counted.
+    /// Returns what was counted.
     pub fn stats(&self) -> &Stats
         ensures stats { result.now ≡ self.now.stats }
         ensures cores { length result.now.cores ≡ length self.now.view.caches }
@@ -257,7 +257,7 @@ impl<F: MissFile> SliceState<F> {
         }
     }
 
-    /// What the slice has of a line: none for a line that isn't the slice's.
+    /// Returns what the slice has of a line: none for a line that isn't the slice's.
     pub fn line_view(&self, line: LineAddr) -> Option<LineView>
         ensures { ShowsLine self.now.view (local_at self.now.view.lines line.0) result }
     {
@@ -275,8 +275,8 @@ impl<F: MissFile> SliceState<F> {
         Some(self.parts.caches()[core.0 as usize].copy(local))
     }
 
-    /// The accesses of a core that wait for a line, the oldest first: the targets of its miss register, where it has
-    /// one.
+    /// Returns the accesses of a core that wait for a line, the oldest first: the targets of its miss register, where
+    /// it has one.
     pub fn targets(&self, core: CoreId, line: LineAddr) -> ArrayVec<Target, 64>
         requires { core.0 < length self.now.view.caches }
         ensures { result.items ≡ targets_at self.now.view core (local_at self.now.view.lines line.0) }
@@ -301,8 +301,8 @@ impl<F: MissFile> SliceState<F> {
         self.parts.core_lines(alloc, core, which)
     }
 
-    /// The line that a core's write-back buffer took in last. Just after a miss for which a line had to leave that is
-    /// the victim.
+    /// Returns the line that a core's write-back buffer took in last. Just after a miss for which a line had to leave
+    /// that is the victim.
     pub fn last_written_back(&self, core: CoreId) -> Option<LineAddr>
         requires { core.0 < length self.now.view.caches }
         ensures { result ≡ last_written_back self.now.view core }
@@ -310,7 +310,7 @@ impl<F: MissFile> SliceState<F> {
         self.parts.last_written_back(core)
     }
 
-    /// What a tag of a core names.
+    /// Returns what a tag of a core names.
     pub fn tag(&self, core: CoreId, tag: u8) -> TagState
         requires core { core.0 < length self.now.view.caches }
         requires tag { tag < 64 }
@@ -319,16 +319,16 @@ impl<F: MissFile> SliceState<F> {
         self.parts.caches()[core.0 as usize].tag(tag)
     }
 
-    /// The line at a place of the ring, the front at 0. [`SliceState::deliver_next`] looks at lines in this order; each
-    /// line with a message is there once.
+    /// Returns the line at a place of the ring, the front at 0. [`SliceState::deliver_next`] looks at lines in this
+    /// order; each line with a message is there once.
     pub fn ring_line(&self, place: usize) -> Option<LineAddr>
         ensures { result ≡ slice_get (ring_lines self.now) place }
     {
         self.parts.ring_line(place)
     }
 
-    /// What [`SliceState::issue`] would decide of the request: to refuse it, or what its access would be. That is a
-    /// hit, a miss that joins the line's miss register, a miss that opens one, or a stall.
+    /// Returns what [`SliceState::issue`] would decide of the request: to refuse it, or what its access would be. That
+    /// is a hit, a miss that joins the line's miss register, a miss that opens one, or a stall.
     pub fn decide(&self, core: CoreId, request: Request) -> Decision
         requires { core.0 < length self.now.view.caches }
         ensures { result ≡ decision_of self.now.view core request }
@@ -336,15 +336,15 @@ impl<F: MissFile> SliceState<F> {
         self.parts.decide(core, request)
     }
 
-    /// What [`SliceState::deliver`] would do at the pick: the row of its front message with the next states and what is
-    /// sent, or why nothing is moved. Nothing for a line that isn't the slice's.
+    /// Returns what [`SliceState::deliver`] would do at the pick: the row of its front message with the next states and
+    /// what is sent, or why nothing is moved. Nothing for a line that isn't the slice's.
     pub fn plan(&self, pick: Pick) -> Plan
         ensures { result ≡ planned_at self.now.view pick }
     {
         self.parts.plan_at(pick)
     }
 
-    /// The pick of the class that [`SliceState::deliver_next`] would deliver, or why it would deliver none.
+    /// Returns the pick of the class that [`SliceState::deliver_next`] would deliver, or why it would deliver none.
     pub fn next(&self, class: Class) -> DeliveredNext
         ensures next { result ≡ next_pick self.now class }
         ensures found { IsNextPick self.now.view class result }
@@ -352,9 +352,9 @@ impl<F: MissFile> SliceState<F> {
         self.parts.next(class)
     }
 
-    /// The picks with a message, each once and no other: from the first line to the last, within a line the block that
-    /// comes home, the data, the acknowledgements, what is forwarded, and the requests. [`SliceState::front`] gives
-    /// each one's message.
+    /// Returns the picks with a message, each once and no other: from the first line to the last, within a line the
+    /// block that comes home, the data, the acknowledgements, what is forwarded, and the requests.
+    /// [`SliceState::front`] gives each one's message.
     pub fn waiting(&self) -> Picks<'_>
         ensures order { result ≡ lines_waiting self.now.view.lines.slice self.now.view.lines.slices 0
             self.now.view.channels }
@@ -363,8 +363,8 @@ impl<F: MissFile> SliceState<F> {
         self.parts.waiting()
     }
 
-    /// The channels of a line in which a message waits, each once and no other: the block that comes home, the data,
-    /// the acknowledgements, what is forwarded, and the requests. None for a line that isn't the slice's.
+    /// Returns the channels of a line in which a message waits, each once and no other: the block that comes home, the
+    /// data, the acknowledgements, what is forwarded, and the requests. None for a line that isn't the slice's.
     pub fn waiting_at(&self, line: LineAddr) -> Option<LineWaiting<'_>>
         ensures there { IfNone result (local_at self.now.view.lines line.0 ≡ None) }
         ensures waiting { IfSome result (AreWaitingAt self.now.view (local_at self.now.view.lines line.0)) }
@@ -373,8 +373,8 @@ impl<F: MissFile> SliceState<F> {
         Some(self.parts.waiting_at(local))
     }
 
-    /// The message that a delivery at the pick would take: none for a line that isn't the slice's, nor for a core that
-    /// isn't there.
+    /// Returns the message that a delivery at the pick would take: none for a line that isn't the slice's, nor for a
+    /// core that isn't there.
     pub fn front(&self, pick: Pick) -> Option<Message>
         ensures { result ≡ front_at self.now.view (local_at self.now.view.lines (line_of_pick pick).0)
             (channel_of pick) }

@@ -24,7 +24,7 @@ impl CacheCopy {
     ghost use Rattle.slice_core_cache.specs.Perform.{asks_to_write, left_in, settled_state};
     ghost use Rattle.slice_core_cache.specs.Steps.{settled_copy};
 
-    /// A copy that has just come into this state by a miss.
+    /// Returns a copy that has just come into this state by a miss.
     pub fn missing(state: CopyState) -> Self
         ensures { result ≡ missing_copy state }
     {
@@ -56,7 +56,7 @@ impl CacheCopy {
         asks
     }
 
-    /// A copy that is in the write-back buffer.
+    /// Returns a copy that is in the write-back buffer.
     pub fn leaving(leaving: Leaving) -> Self
         ensures { result ≡ leaving_copy leaving }
     {

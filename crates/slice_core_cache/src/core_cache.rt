@@ -82,7 +82,7 @@ impl<F: MissFile> CoreCache<F> {
         })
     }
 
-    /// The same cache, in memory of its own.
+    /// Returns a copy of the cache, in memory of its own.
     pub fn try_clone(&self, alloc: Global) -> Result<Self, AllocError>
         ensures { IfOk result (λ copy. copy ≡ self.now) }
     {
@@ -99,14 +99,14 @@ impl<F: MissFile> CoreCache<F> {
         })
     }
 
-    /// How many requests of the core were accepted.
+    /// Returns how many requests of the core were accepted.
     pub fn accepted(&self) -> u64
         ensures { result ≡ self.now.accepted }
     {
         self.accepted
     }
 
-    /// What a tag names.
+    /// Returns what a tag names.
     pub fn tag(&self, tag: u8) -> TagState
         requires { tag < 64 }
         ensures { result ≡ tag_at self.now tag }
@@ -114,7 +114,7 @@ impl<F: MissFile> CoreCache<F> {
         self.tags.get(tag)
     }
 
-    /// The core's copy of a line, and its way in the set if it is in the array.
+    /// Returns the core's copy of a line, and its way in the set if it is in the array.
     pub fn copy(&self, local: Local) -> CacheCopy
         ensures { result ≡ copy_of self.now local }
     {

@@ -7,8 +7,8 @@
 //! messages do to a copy; [`CoreCache::settle`] performs the targets that it then allows (specs/Perform.antt). Each contract
 //! gives the whole core after the call (specs/Steps.antt), and proofs/Found.antt what that makes of each line's copy.
 //!
-//! All memory is taken by [`CoreCache::with_file`]. A call looks at the one set of its line, at the lines that are waited for and
-//! at those that leave, and copies no block but the one that comes. The next reply is found among the tags that name
+//! All memory is taken by [`CoreCache::with_file`] and [`CoreCache::try_clone`]. A call looks at the one set of its line,
+//! at the lines that are waited for and at those that are written back, and copies no block but the one that comes. The next reply is found among the tags that name
 //! one.
 #![tactic(auto)]
 

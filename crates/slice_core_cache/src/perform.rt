@@ -13,7 +13,7 @@ use mshr_file::MissFile;
 use slice_log::{Entry, performed, reply_to};
 use target_list::Target;
 
-/// How many of the targets that wait for the line, `waiting` of them, a copy in this state performs.
+/// Returns how many of the targets that wait for the line, `waiting` of them, a copy in this state performs.
 pub fn count_allowed<F: MissFile>(file: &F, local: Local, waiting: usize, state: CopyState) -> usize
     requires { waiting ≡ length (targets_of (F.misses file.now) local.0) }
     ensures few { result ≤ length (targets_of (F.misses file.now) local.0) }

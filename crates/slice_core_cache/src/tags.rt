@@ -44,7 +44,7 @@ impl Tags {
         Tags { states, replies }
     }
 
-    /// The same tags.
+    /// Returns a copy of the tags.
     pub fn copy(&self) -> Self
         ensures { result ≡ self.now }
     {
@@ -79,7 +79,7 @@ impl Tags {
         self.replies.is_empty()
     }
 
-    /// The reply of least number that the tags name, with its tag.
+    /// Returns the reply of least number that the tags name, with its tag.
     pub fn least_reply(&self) -> Option<(u8, u64)>
         ensures least { IsLeastReply self.now result }
         ensures tag { IfSome result (λ least. least.0 < 64) }

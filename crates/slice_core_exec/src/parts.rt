@@ -62,14 +62,14 @@ impl<F: MissFile> Parts<F> {
         &self.log
     }
 
-    /// Each core's cache.
+    /// Returns each core's cache.
     pub fn caches(&self) -> &[CoreCache<F>]
         ensures { result.now ≡ self.now.view.caches }
     {
         &self.caches
     }
 
-    /// The configured initial values of the slice's words.
+    /// Returns the configured initial values of the slice's words.
     pub fn init(&self) -> &[(WordAddr, u64)]
         ensures { result.now ≡ self.now.view.init }
     {

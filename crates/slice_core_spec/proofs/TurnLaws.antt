@@ -157,7 +157,7 @@ looked-some v class (first ∷ rest) some = by_first (is_move (next_at v class (
     by_first true = omega arith
     by_first false = omega arith
 
--- no more lines are looked at than stand in the ring
+-- no more lines are looked at than are in the ring
 pub looked-within : (v : View) (class : Class) (ring : List ℕ) → looked_at v class ring ≤ length ring
 looked-within v class [] = omega arith
 looked-within v class (first ∷ rest) =
@@ -205,7 +205,7 @@ extends-plan (deliveries.Moved (transitions.Fill step)) old new local channel an
 extends-plan (deliveries.Moved (transitions.Acknowledge step)) old new local channel answer after =
     extends-at old new _ after.1.3 (extends-listed old.ring local.0)
 
--- what is done of a next delivery leaves each line where it stands
+-- what is done of a next delivery leaves each line where it is
 pub extends-done : (old new : PartsView) (answer : Delivery Pick) → IsDone old answer new → Extends old.ring new.ring
 extends-done old new (deliveries.Moved pick) done =
     extends-plan (planned_at old.view pick) old new _ _ delivered.Moved done
@@ -220,7 +220,7 @@ longer old new extends =
 
 -- ---- a line after those that are looked at
 
--- what follows so many elements stands so many places nearer once these have gone
+-- what follows `looked` elements is `looked` places nearer once these have gone
 get-turned : (ring more behind : List ℕ) (looked place line : ℕ) → looked ≤ place → slice_get ring place ≡ Some line
     → slice_get (drop looked (ring ++ more) ++ behind) (place - looked) ≡ Some line
 get-turned ring more behind looked place line few stands =
@@ -274,7 +274,7 @@ module _ (old : PartsView) (class : Class) (answer : Delivery Pick) (new : Parts
         subst (λ (p : PartsView). slice_get p.ring (place - looked) ≡ Some local.0) (sym after.turns) at,
       )
 
-  -- The line is taken from, or stands nearer to the front.
+  -- The line is taken from, or is nearer to the front.
   pub comes-nearer : TakesFrom old.view.lines local answer ⊎ StandsBefore new local place
   comes-nearer = by (reached old.view class old.ring local place stands (next-moves old.view class local moves))
     where
@@ -286,7 +286,7 @@ module _ (old : PartsView) (class : Class) (answer : Delivery Pick) (new : Parts
           inl (took answer found.0 (after.next ∙ ap (pick_of old.view.lines) (is ∙ found.1)))
       by (inr few) = inr (behind few)
 
--- As many next deliveries pass over a line as stand in front of it, and no more.
+-- As many next deliveries pass over a line as lines are in front of it, and no more.
 pub passed-over : (local : Local) (class : Class) (old : PartsView) (answers : List (Delivery Pick)) (new : PartsView)
     (place : ℕ) → StandsAt old local place → PassOver local class old answers new → length answers ≤ place
 passed-over local class old [] new place stands pass = omega arith

@@ -1,4 +1,4 @@
--- What each call of a slice relies on, answers and leaves. What is done of a request stands in Hit.antt, Join.antt and
+-- What each call of a slice relies on, returns and leaves. What is done of a request is in Hit.antt, Join.antt and
 -- PrimaryMiss.antt, what an eviction does in Eviction.antt, and what a delivery does in Delivery.antt.
 use Rattle.std.specs.Prelude.{◌≡◌, ℕ, ◌+◌, ◌^◌, ◌<◌, ◌≤◌, ◌⊎◌, true, [], length, replicate, All, IsSome, IsTrue}
 use Rattle.std.specs.Prelude.{slice_get, Option, Some, None, Result, Ok, Err}
@@ -104,7 +104,7 @@ pub record LacksMemory (old : PartsView) (answer : Result Issue Refused) (new : 
   pub full : old.room < length old.view.log + old.pending + 1
   pub unchanged : new ≡ old
 
--- What an access that is accepted answers and leaves, where the log has room: a hit, a join or a primary miss.
+-- What an access that is accepted returns and leaves, where the log has room: a hit, a join or a primary miss.
 abbrev pub AfterAccepting : AccessKind → PartsView → CoreId → Request → Local → Issue → PartsView → Type 0
 AfterAccepting (access_kinds.Stall stall) old core request local answer new = (answer ≡ issues.Stall stall)
     × (new ≡ old)
@@ -123,7 +123,7 @@ IsAccepted access old core request local answer new =
     × (answer ≡ Ok issue)
     × AfterAccepting access (record old { room = room }) core request local issue new
 
--- What an access answers and leaves: a stall is counted, and changes nothing else; all else needs room in the log.
+-- What an access returns and leaves: a stall is counted, and changes nothing else; all else needs room in the log.
 abbrev pub AfterAccess : AccessKind → PartsView → CoreId → Request → Local → Result Issue Refused → PartsView → Type 0
 AfterAccess (access_kinds.Stall stall) old core request local answer new =
     (answer ≡ Ok (issues.Stall stall)) × (new ≡ record old { stats = after_stall old.stats core stall })
@@ -137,13 +137,13 @@ IsDecided v core request (decisions.Refuse refused) = Unit {0}
 IsDecided v core request (decisions.Access local access) =
     (local.0 < v.lines.lines) × (request.tag < 64) × IsWithin (cache_at v core) local request.tag access
 
--- What a request answers and leaves, by what is decided of it.
+-- What a request returns and leaves, by what is decided of it.
 abbrev pub AfterDecision : Decision → PartsView → CoreId → Request → Result Issue Refused → PartsView → Type 0
 AfterDecision (decisions.Refuse refused) old core request answer new = (answer ≡ Err refused) × (new ≡ old)
 AfterDecision (decisions.Access local access) old core request answer new =
     AfterAccess access old core request local answer new
 
--- What an issue answers and leaves.
+-- What an issue returns and leaves.
 abbrev pub AfterIssue : PartsView → CoreId → Request → Result Issue Refused → PartsView → Type 0
 AfterIssue old core request answer new =
     AfterDecision (decision_of old.view core request) old core request answer new
@@ -191,7 +191,7 @@ abbrev pub IsDone : PartsView → Delivery Pick → PartsView → Type 0
 IsDone old (deliveries.Moved pick) new = AfterDelivery old pick delivered.Moved new
 IsDone old _ new = new ≡ old
 
--- What the next delivery of a class answers and leaves: the one that is next in the order of the ring is made, where
+-- What the next delivery of a class returns and leaves: the one that is next in the order of the ring is made, where
 -- one can be made, and the lines that were looked at for it go after the others.
 pub record AfterDeliverNext (old : PartsView) (class : Class) (answer : Delivery Pick) (new : PartsView) : Type 0 where
   pub next : answer ≡ next_pick old class

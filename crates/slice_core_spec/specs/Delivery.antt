@@ -157,7 +157,7 @@ AfterMove (transitions.Acknowledge step) old local channel new =
     let core = core_of channel in
     Settles old local core channel (copy_after_ack (array_copy (cache_at old.view core) local) step.next) new
 
--- What a delivery at a channel of a line answers and leaves, by what is planned.
+-- What a delivery at a channel of a line returns and leaves, by what is planned.
 abbrev pub AfterPlan : Delivery Transition → PartsView → Local → Channel → Delivered → PartsView → Type 0
 AfterPlan deliveries.Nothing old local channel answer new = (answer ≡ delivered.Nothing) × (new ≡ old)
 AfterPlan deliveries.Blocked old local channel answer new = (answer ≡ delivered.Blocked) × (new ≡ old)
@@ -165,12 +165,12 @@ AfterPlan (deliveries.Broken cell) old local channel answer new = (answer ≡ de
 AfterPlan (deliveries.Moved step) old local channel answer new =
     (answer ≡ delivered.Moved) × AfterMove step old local channel new
 
--- the place of a line; where the slice hasn't the line nothing is planned, and nobody looks at the place
+-- the place of a line; where the slice hasn't the line nothing is planned, and the place isn't used
 abbrev pub local_in : Option Local → Local
 local_in None = record { 0 = 0 }
 local_in (Some local) = local
 
--- What a delivery answers and leaves: what is planned for the message in front of the pick is done.
+-- What a delivery returns and leaves: what is planned for the message in front of the pick is done.
 abbrev pub AfterDelivery : PartsView → Pick → Delivered → PartsView → Type 0
 AfterDelivery old pick answer new =
     AfterPlan (planned_at old.view pick) old (local_in (local_at old.view.lines (line_of pick).0))

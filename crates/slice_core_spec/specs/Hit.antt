@@ -35,7 +35,7 @@ after_hit v core request local next =
       } ∷ [];
     }
 
--- What a hit answers and leaves: its entry's number, the entry at the end of the log, and one hit more of the core. The
+-- What a hit returns and leaves: its entry's number, the entry at the end of the log, and one hit more of the core. The
 -- hit is silent where it made an exclusive copy a modified one.
 abbrev pub AfterHit : PartsView → CoreId → Request → Local → CopyState → Bool → Issue → PartsView → Type 0
 AfterHit old core request local next silent answer new =

@@ -16,18 +16,18 @@ pub record IsInitialBlock (c : Config) (own : Lines) (local : Local) (block : Bl
   pub words : (i : ℕ) → i < 8 → slice_index block.words i ≡ initial_value c.init (word_at own local (record { 0 = i }))
   pub fits : (i : ℕ) → i < 8 → slice_index block.words i < 2 ^ 64
 
--- a line that nobody has, with this home copy
+-- a line that no core has, with this home copy
 abbrev pub unowned_entry : Block → DirEntry
 unowned_entry block = record no_entry { home = block }
 
--- so many of the slice's lines, with their initial values, which nobody has yet
+-- `count` of the slice's lines, with their initial values, which no core has yet
 pub record AreInitialEntries (c : Config) (own : Lines) (count : ℕ) (entries : List DirEntry) : Type 0 where
   pub count_is : length entries ≡ count
   pub each : (local : ℕ) → local < count
       → (block : Block) × IsInitialBlock c own (record { 0 = local }) block
       × (slice_index_or entries local no_entry ≡ unowned_entry block)
 
--- so many cores, none of which has asked for anything yet
+-- `count` cores, none of which has asked for anything yet
 pub record AreNewCaches (c : Config) (bound : Bound) (slice count : ℕ) (caches : List CoreCacheView) : Type 0 where
   pub count_is : length caches ≡ count
   pub each : (core : ℕ) → core < count → slice_index_or caches core no_cache ≡ new_cache c bound slice core

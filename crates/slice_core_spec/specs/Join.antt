@@ -24,7 +24,7 @@ target_for p core request = target_of (cache_at p.view core) request (offset_of 
 abbrev pub after_join : View → CoreId → Request → List Register → View
 after_join v core request misses = with_cache v core (caches.after_join (cache_at v core) request misses)
 
--- What a join answers and leaves: how many of the core's requests were accepted before it; one target more of the line,
+-- What a join returns and leaves: how many of the core's requests were accepted before it; one target more of the line,
 -- after the others, and one secondary miss more of the core.
 abbrev pub AfterJoin : PartsView → CoreId → Request → Local → Issue → PartsView → Type 0
 AfterJoin old core request local answer new =

@@ -18,7 +18,7 @@ use Rattle.slice_queues.specs.declared.channel.Class.{Class}
 abbrev pub next_by : Local → Channel → Delivery Transition → Delivery (Local × Channel)
 next_by local channel plan = delivery_with (local, channel) plan
 
--- what was to be done there, by what its delivery answered
+-- what was to be done there, by what its delivery returned
 abbrev pub next_told : Local → Channel → Delivered → Delivery (Local × Channel)
 next_told local channel answer = delivered_with (local, channel) answer
 

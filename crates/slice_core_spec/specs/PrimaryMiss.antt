@@ -30,7 +30,7 @@ abbrev pub request_of : Ask → RequestMessage
 request_of asks.GetS = request_messages.GetS
 request_of asks.GetM = request_messages.GetM
 
--- the slice in which the line that is missed has its way: a victim has left, and the directory was told, where one had
+-- the slice in which the missed line has its way: a victim has left, and the directory was notified, where one had
 -- to
 abbrev pub with_way : View → CoreId → Local → Placement → View
 with_way v core local placements.Victim =
@@ -67,7 +67,7 @@ opened_ring p core local placements.Victim =
     with_listed (with_listed p.ring (victim_for (cache_at p.view core) local).0) local.0
 opened_ring p core local _ = with_listed p.ring local.0
 
--- What a primary miss answers and leaves: how many of the core's requests were accepted before it; a register whose one
+-- What a primary miss returns and leaves: how many of the core's requests were accepted before it; a register whose one
 -- target is the access, one primary miss more of the core, and the lines that were sent to in the ring.
 abbrev pub AfterPrimaryMiss : PartsView → CoreId → Request → Local → Placement → CopyState → Ask → Issue → PartsView →
     Type 0

@@ -58,6 +58,6 @@ looked_at v class (local ∷ rest) =
 abbrev pub has_mail_at : View → ℕ → Bool
 has_mail_at v local = has_mail (channels_at v (record { 0 = local }))
 
--- so many lines were looked at: those that still have pending messages go after the others, the rest leave the ring
+-- `looked` lines were looked at: those that still have pending messages go after the others, the rest leave the ring
 abbrev pub ring_after_turn : View → ℕ → List ℕ → List ℕ
 ring_after_turn v looked ring = drop looked ring ++ filter (has_mail_at v) (take looked ring)

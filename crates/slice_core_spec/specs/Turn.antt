@@ -29,7 +29,7 @@ abbrev pub TakesFrom : Lines → Local → Delivery Pick → Type 0
 TakesFrom lines local (deliveries.Moved pick) = line_of pick ≡ line_at lines local
 TakesFrom lines local _ = ⊥
 
--- the line stands nearer to the front than this
+-- the line is nearer to the front than this
 abbrev pub StandsBefore : PartsView → Local → ℕ → Type 0
 StandsBefore p local place = (nearer : ℕ) × (nearer < place) × StandsAt p local nearer
 

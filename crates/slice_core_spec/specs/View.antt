@@ -30,10 +30,10 @@ pub record View : Type 0 where
   pub counters : List WordAddr
   -- which lines of the memory are the slice's
   pub lines : Lines
-  -- whether a core that asks to read a line that nobody has gets the only copy
+  -- whether a core that asks to read a line that no core has gets the only copy
   pub exclusive : Bool
 
--- a line that nobody has, of zeros
+-- a line that no core has, of zeros
 abbrev pub no_entry : DirEntry
 no_entry = record { home = zero_block; sharers = 0; owner = None; state = dir_states.I }
 
@@ -78,7 +78,7 @@ pub record IsShaped (v : View) : Type 0 where
   pub lines : length v.channels ≡ v.lines.lines
   pub cores : (local : Local) → local.0 < v.lines.lines → length (channels_at v local).cores ≡ length v.caches
 
--- no message, no access that waits, no line that leaves and no reply that isn't handed out
+-- no message, no access that waits, no line being written back and no reply that isn't handed out
 pub record IsQuiet (v : View) : Type 0 where
   pub messages : (local : Local) → IsEmptyLine (channels_at v local)
   pub caches : All IsCoreCacheQuiet v.caches

@@ -5,7 +5,7 @@ use address_map::{Local, Op};
 use slice_answer::Refused;
 use slice_core_cache::AccessKind;
 
-/// What is to be done with a request, before memory is asked for.
+/// What is to be done with a request, before memory is allocated.
 #[derive(Clone, Copy, Debug, PartialEq, Eq)]
 pub enum Decision {
     /// The request is turned away, and nothing changes.

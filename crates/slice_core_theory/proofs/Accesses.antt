@@ -66,7 +66,7 @@ pub request_for_ask : (ask : Ask) (waits : Asked) → kind_of_request (Some (req
 request_for_ask asks.GetS waits = refl
 request_for_ask asks.GetM waits = refl
 
--- Where the copy of a line that is missed is to stand: it is there, or has a free way.
+-- Where the copy of a missed line is to be: it is there, or has a free way.
 abbrev pub HasPlace : CoreCacheView → Local → Bool → Type 0
 HasPlace cache local true = IsSome (array_at cache.array local)
 HasPlace cache local false =

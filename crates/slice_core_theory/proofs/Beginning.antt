@@ -1,4 +1,4 @@
--- The lines of a new slice are lines that nobody has: the machine's first.
+-- The lines of a new slice are lines that no core has: the machine's first.
 use Rattle.std.proofs.Common.{◌≡◌, ℕ, ◌<◌, false, length, replicate, get_or, inl, inr, sym, ap, ◌∙◌, subst, refl}
 use Rattle.std.proofs.Common.{true≢false}
 use Rattle.std.proofs.lemmas.Bool.{cases_lt}
@@ -45,7 +45,7 @@ idle_stands = record {
   counted = λ waits. absurd (true≢false (sym waits));
 }
 
--- A line that nobody has, with no message and no copy, is the machine's first.
+-- A line that no core has, with no message and no copy, is the machine's first.
 pub first_line_stands : (cores : ℕ) (home : Block) (copy : ℕ → CacheCopy)
     → ((core : ℕ) → core < cores → copy core ≡ no_copy)
     → LineStands cores (unowned_entry home) (empty_line cores) copy first

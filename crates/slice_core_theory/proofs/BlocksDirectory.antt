@@ -64,7 +64,7 @@ module _ (cores : ℕ) (line : LineChannels) (copy : ℕ → CacheCopy) (kept ar
   abbrev given_line : DataMessage → LineChannels
   given_line message = after_send taken_line (channels.Data core) (messages.Data message)
 
-  -- the home copy for who asks
+  -- the home copy for the requester
   given_stand : (message : DataMessage) → block_of_data block (Some message) ≡ block
       → CoresBlocksStand cores (given_line message) copy kept (with_block_at arriving core.0 block) put
   given_stand message carries =

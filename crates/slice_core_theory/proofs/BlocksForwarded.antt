@@ -195,7 +195,7 @@ module _ (exclusive : Bool) (cores : ℕ) (init : ℕ → ℕ) (log : List Entry
             ((keeping (forwarded_messages.FwdGetS requester) waits row).given refl);
       }
 
-  -- The line goes on with its blocks, whichever message the core takes.
+  -- The line continues with its blocks, whichever message the core takes.
   message_reached : (message : ForwardedMessage) → slice_get (core_at queues core.0).forwarded 0 ≡ Some message
       → row_of (copy core.0).state (event_of_forwarded message) ≡ rows.Go next (sends_for message)
       → LineReachedWith exclusive cores init log first entry

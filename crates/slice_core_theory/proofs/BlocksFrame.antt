@@ -49,7 +49,7 @@ reached_as exclusive cores init log first entry channels copy now same line = re
   blocks_stand = blocks_as cores entry channels copy now line.blocks same line.blocks_stand;
 }
 
--- A line that the machine reaches goes on by a step, whose newest block has what the log gives then.
+-- A line that the machine reaches continues by a step, whose newest block has what the log gives then.
 pub reached_further : (exclusive : Bool) (cores : ℕ) (init : ℕ → ℕ) (log : List Entry) (first : ℕ) (entry : DirEntry)
     (channels : LineChannels) (copy : ℕ → CacheCopy) (line : Line) (blocks : Blocks) (newest : Block)
     → ReachedWith exclusive cores line blocks newest → (step : Step exclusive cores line) → (written : Block)

@@ -42,7 +42,7 @@ writes_home exclusive entry step row =
     subst (λ (r : DirRow). IfGo r (λ next owns shares se w. w ≡ true)) row
     (home_writes exclusive entry.state entry.owner entry.sharers)
 
--- A block that waits is the one that it stands for.
+-- A block that waits is the one that it represents.
 mail_is : (waits : Option Block) (none mail : Block) → IsSome waits → unwrap_or waits mail ≡ mail
     → unwrap_or waits none ≡ mail
 mail_is None none mail some same = absurd (true≢false (sym some))

@@ -1,4 +1,4 @@
--- A line that the machine reaches, blocks and all, goes on by a core's own turn.
+-- A line that the machine reaches, blocks and all, continues by a core's own turn.
 use Rattle.std.proofs.Common.{◌≡◌, ℕ, ◌<◌, ◌≤◌, Bool, true, if◌then◌else◌, List, length, Option, sym, subst}
 use Rattle.address_map.specs.declared.block.Block.{Block}
 use Rattle.cache_table.specs.CopyState.{is_waiting}

@@ -1,4 +1,4 @@
--- Accesses that a core performs on its copy are turns of the line, and the log goes on with what they replied.
+-- Accesses that a core performs on its copy are turns of the line, and the log continues with what they replied.
 use Rattle.std.proofs.Common.{◌≡◌, ℕ, ◌+◌, ◌<◌, ◌≤◌, ◌&&◌, Bool, true, false, not, if◌then◌else◌, List, [], ◌∷◌, ◌++◌}
 use Rattle.std.proofs.Common.{length, append_assoc, append-nil, refl, sym, ap, ◌∙◌, subst, true≢false}
 use Rattle.std.proofs.lemmas.Bool.{eq-eqb}
@@ -181,7 +181,7 @@ module _ (exclusive : Bool) (cores : ℕ) (init : ℕ → ℕ) (first : ℕ) (en
         (ap (λ (x : CacheCopy). performed_on x.block target.offset.0 target.op) (sym (mine now))) inside refl
         (ap (λ (x : CacheCopy). reply_of target.op (word_at x.block target.offset.0)) (sym (mine now))) line)
 
-    -- The core performs targets, and the log goes on with their entries.
+    -- The core performs targets, and the log continues with their entries.
     pub targets_performed : (targets : List Target) (log : List Entry) (now : CacheCopy) → AreAllowed now.state targets
         → LineReachedWith exclusive cores init log first entry channels (with_copy_at copy c now)
         → LineReachedWith exclusive cores init (log ++ entries_of core first now.block targets) first entry channels

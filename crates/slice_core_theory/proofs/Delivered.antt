@@ -54,7 +54,7 @@ kept-if : {A : Type 0} (f : CoreCacheView → A) (b : Bool) (old one other : Cor
 kept-if f true old one other first second = first
 kept-if f false old one other first second = second
 
--- Wherever it stands, the core's misses and tags are as they were.
+-- Wherever it is, the core's misses and tags are as they were.
 misses-advance : (cache : CoreCacheView) (local : Local) (next : CopyState)
     → (caches.after_advance cache local next).misses ≡ cache.misses
 misses-advance cache local next =
@@ -131,7 +131,7 @@ module _ (old : PartsView) (local : Local) (channel : Channel) (new : PartsView)
             (tags-advance (cache_at old.view core) local next);
       }
 
-  -- A copy that is changed by data or by an acknowledgement stands in its core's array.
+  -- A copy that is changed by data or by an acknowledgement is in its core's array.
   held : (way : ℕ) (plan : Delivery Transition) → plan_of old.view local channel ≡ plan → way_in plan ≡ Some way
       → IsSome (array_at (cache_at old.view (core_of channel)).array local)
   held way plan is stands =
@@ -171,7 +171,7 @@ module _ (old new : PartsView) (accounted : IsAccounted old.view) (whole : IsWho
       subst (λ (p : PartsView). Performs old.view p.view) (sym is)
       (performs-none old.view old.view (same-view old.view))
 
-  -- what a delivery answers and leaves, by the line's place
+  -- what a delivery returns and leaves, by the line's place
   abbrev by_line : Pick → Delivered → Option Local → Type 0
   by_line pick answer place =
       AfterPlan (planned_in old.view place (channel_of pick)) old (local_in place) (channel_of pick) answer new

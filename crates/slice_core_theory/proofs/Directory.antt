@@ -198,7 +198,7 @@ module _ (exclusive : Bool) (cores : ℕ) (entry : DirEntry) (line : LineChannel
 module _ (v : View) (local : Local) (shaped : IsShaped v) (inside : local.0 < v.lines.lines)
     (most : length v.caches ≤ 64) (core : CoreId) (within : core.0 < length v.caches) (step : DirStep)
     (is : plan_of v local (channels.Req core) ≡ directory_move step) where
-  -- The machine's line goes on by one step, and the slice's line is that line then.
+  -- The machine's line continues by one step, and the slice's line is that line then.
   unfoldable pub directory_step : (l : Line) → Reached v.exclusive (length v.caches) l → Stands v local l
       → (moved : Step v.exclusive (length v.caches) l)
       × LineStands (length v.caches)

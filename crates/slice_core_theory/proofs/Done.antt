@@ -25,7 +25,7 @@ pub record Logs (old new : View) (entry : Entry) : Type 0 where
   pub misses : (core : CoreId) → (cache_at new core).misses ≡ (cache_at old core).misses
   pub tags : (core : CoreId) → (cache_at new core).tags ≡ (cache_at old core).tags
 
--- Where nobody waits for a line it has no target.
+-- Where no access waits for a line it has no target.
 none-waits : (targets : List Target) (target : Target) → is_waited targets ≡ false → Contains targets target → ⊥
 none-waits [] target idle there = none-contained target there
 none-waits (first ∷ targets) target idle there = cc

@@ -1,4 +1,4 @@
--- A line that a core gives up: whoever sees only requests and replies sees nothing of it.
+-- A line that a core evicts: an observer of only requests and replies sees nothing of it.
 use Rattle.std.proofs.Common.{◌≡◌, ◌<◌, [], length, Option, Some, None, refl, sym, subst}
 use Rattle.address_map.specs.Locator.{local_at}
 use Rattle.address_map.specs.declared.address.CoreId.{CoreId}

@@ -58,7 +58,7 @@ passing test (Some copy) passes = (refl, passes)
 module _ (v : View) (core : CoreId) (local : Local) (shaped : IsShaped v) (most : length v.caches ≤ 64)
     (there : core.0 < length v.caches) (inside : local.0 < v.lines.lines) (kept : IsKept (cache_at v core))
     (leaves : CanLeave (cache_at v core) local) where
-  -- A copy that leaves, and tells the directory, is a step of its line.
+  -- A copy that leaves, and notifies the directory, is a step of its line.
   unfoldable pub leave_step : (now : CacheCopy) → now
       ≡ leaving_copy (leaving_after_evict (copy_of (cache_at v core) local))
       → (line : Line)

@@ -40,11 +40,11 @@ unfolding performed only free
 one_hit = account-hit only [] 0 [] free 0 (record { 0 = 1 }) (performed 0) (omega arith) refl refl refl refl
     (account-begins only 0)
 
--- A request that was accepted and stands nowhere.
+-- A request that was accepted and is nowhere.
 lost : StandsOnce [] 0 [] 1 → ⊥
 lost stands = differ 0 1 (omega arith) (stands.once 0)
 
--- One that stands twice: it was performed, and waits still.
+-- One that is in two places: it was performed, and waits still.
 twice : StandsOnce (performed 0 ∷ []) 0 (waits 0) 1 → ⊥
 unfolding performed waits asked
 twice stands = differ 1 2 (omega arith) (sym (stands.once 0))

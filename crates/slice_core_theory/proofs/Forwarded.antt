@@ -219,7 +219,7 @@ module _ (exclusive : Bool) (cores : ℕ) (entry : DirEntry) (queues : LineChann
         (subst (λ n. (line_acked.part core.0).owes_to < n) (sym (with_core-length queues core.0 mail_here ∙ size))
         named)
 
-    -- Its acknowledgement waits for who is due, and the others do as before.
+    -- Its acknowledgement waits for the core that is due, and the others do as before.
     acks_as : (to from : ℕ) → has (acks_of to) from ≡ has (core_at queues to).acks from
     acks_as to from = ap (λ a. has a from) (acks-with_core queues core.0 to mail_here refl)
 
@@ -368,7 +368,7 @@ module _ (v : View) (local : Local) (core : CoreId) (next : CopyState) (sent : C
             core next block some most reached stands size there message waits row,
       ))
 
-  -- A slice in which a core takes a forwarded message goes on as its lines can.
+  -- A slice in which a core takes a forwarded message continues as its lines can.
   pub forwarded_reached : AreReached v → AreReached (after_forwarded v local core next sent requester)
   forwarded_reached all =
       let before = all local inside in

@@ -111,7 +111,7 @@ no_entry-others core log more others absent =
     let zero = none-of core more others in
     omega (arith, both, zero, absent)
 
--- Its requests stand nowhere: none was accepted.
+-- Its requests are nowhere: none was accepted.
 pub no_entry-standings : (core seq : ℕ) (log : List Entry) → HasNoEntry core log → standings [] log core seq ≡ 0
 no_entry-standings core seq log absent =
     let fewer = count_by-more (is_request core seq) (is_of core) log (λ entry passes. (and_parts _ _ passes).0) in

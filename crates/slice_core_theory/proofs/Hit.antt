@@ -27,7 +27,7 @@ nothing_waits misses line idle = empty (targets_of misses line) idle
     empty [] idle = refl
     empty (target ∷ targets) idle = absurd (false≢true (sym idle))
 
--- The entry has the next number: no other request stands where it does.
+-- The entry has the next number: no other request is where it is.
 once-hit : (log : List Entry) (core : ℕ) (misses : List Register) (accepted : ℕ) (entry : Entry) → entry.core.0 ≡ core
     → entry.seq ≡ accepted → StandsOnce log core misses accepted
     → StandsOnce (log ++ entry ∷ []) core misses (accepted + 1)

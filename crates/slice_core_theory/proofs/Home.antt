@@ -84,7 +84,7 @@ module _ (v : View) (local : Local) (state : DirState) (owner : Option CoreId) (
 
 module _ (v : View) (local : Local) (shaped : IsShaped v) (inside : local.0 < v.lines.lines) (state : DirState)
     (owner : Option CoreId) (sharers : ℕ) (is : plan_of v local channels.Home ≡ home_move state owner sharers) where
-  -- The machine's line goes on by one step, and the slice's line is that line then.
+  -- The machine's line continues by one step, and the slice's line is that line then.
   unfoldable pub home_step : (l : Line) → Stands v local l
       → (step : Step v.exclusive (length v.caches) l)
       × LineStands (length v.caches)

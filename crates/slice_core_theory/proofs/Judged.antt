@@ -90,7 +90,7 @@ module _ (cache : CoreCacheView) (local : Local) (state : CopyState) (op : Op) w
       judged-register room (in_way cache local next asks.GetM) (judged-way next asks.GetM absent stays is)
   judged-absent room _ absent stays is = tt
 
--- An access to a line that nobody waits for is by the row of its copy, which is in the array, or leaves, or isn't
+-- An access to a line that no access waits for is by the row of its copy, which is in the array, or leaves, or isn't
 -- there.
 judged-alone : (cache : CoreCacheView) (local : Local) (room : Bool) (op : Op)
     → IsJudged cache local (state_of cache local) op (alone_of cache local room op)

@@ -124,7 +124,7 @@ module _ (Whole Fact : View → Type 0) (steps : KeepsAccesses Whole Fact) (old 
       is.0
       row.1 victim row.0 after.1 all)
 
-  -- Where memory for the log is lacking, nothing changed.
+  -- Where an allocation for the log failed, nothing changed.
   with_memory : (local : Local) (access : AccessKind) → IsAccessTo old.view core request local access
       → LacksMemory old answer new ⊎ IsAccepted access old core request local answer new → Fact new.view
   with_memory local access is after =

@@ -116,7 +116,7 @@ module _ (Whole Fact : View → Type 0) (steps : KeepsMessages Whole Fact) (old 
   unchanged : new ≡ old → Fact new.view
   unchanged same = subst (λ (p : PartsView). Fact p.view) (sym same) all
 
-  -- what a delivery answers and leaves, by the line's place
+  -- what a delivery returns and leaves, by the line's place
   abbrev by_line : Pick → Delivered → Option Local → Type 0
   by_line pick answer place =
       AfterPlan (planned_in old.view place (channel_of pick)) old (local_in place) (channel_of pick) answer new

@@ -211,7 +211,7 @@ module _ (v : View) (local : Local) where
   planned-way (channels.Ack to from) way found = way-ack to from way found
   planned-way channels.Home way found = absurd (None_apart way (sym way-home ∙ found))
 
--- A line that stands somewhere in its set is held.
+-- A line that is somewhere in its set is held.
 pub held-at_way : (cache : CoreCacheView) (local : Local) (way : ℕ)
     → position (holds local) (slots_at cache.array local) ≡ Some way → IsSome (array_at cache.array local)
 held-at_way cache local way stands =

@@ -1,4 +1,4 @@
--- No delivery of a slice whose lines the machine reaches answers that a message is broken.
+-- No delivery of a slice whose lines the machine reaches returns that a message is broken.
 use Rattle.std.proofs.Common.{◌≡◌, ◌≢◌, Option, Some, None, refl, sym, ap, ◌∙◌}
 use Rattle.address_map.specs.Locator.{local_at}
 use Rattle.address_map.specs.declared.address.Local.{Local}

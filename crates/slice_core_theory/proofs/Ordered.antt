@@ -26,7 +26,7 @@ use Rattle.slice_log.specs.Log.{IsAfter, IsOrdered}
 use Rattle.slice_log.specs.declared.entry.Entry.{Entry}
 use Rattle.target_list.specs.declared.target.Target.{Target}
 
--- The targets were asked for in the order in which they stand, after all that their core performed on their line.
+-- The targets were asked for in the order in which they are, after all that their core performed on their line.
 record IsNext (log : List Entry) (core : CoreId) (line : ℕ) (taken : List Target) : Type 0 where
   pub ascending : IsAscendingBy (λ (target : Target). target.seq) taken
   pub words : All IsPerformable taken

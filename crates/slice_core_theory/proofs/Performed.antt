@@ -114,7 +114,7 @@ module _ (initial : ℕ → ℕ) (first : ℕ) (core : CoreId) (left : List Targ
           )) waiting;
     }
 
-  -- So all of them are performed, in order, and the log goes on with their entries.
+  -- So all of them are performed, in order, and the log continues with their entries.
   pub performed-run : (taken : List Target) (block : Block) (m now : SmallMachine) → All IsPerformable taken
       → IsAscendingBy (λ t. t.seq) (taken ++ left) → Waiting first core Other m.waiting (taken ++ left)
       → Waiting first core Other now.waiting left

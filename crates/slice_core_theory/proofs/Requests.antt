@@ -57,7 +57,7 @@ word_at_offset v local word = by (line_at v.lines local).0
 pub none-contained : {X : Type 0} (x : X) → Contains [] x → ⊥
 none-contained x there = let inside = there.1 in omega (arith, inside)
 
--- Somebody for whom a target waits is there.
+-- A core for which a target waits is there.
 pub waits-known : (v : View) (core : CoreId) (line : ℕ) (target : Target)
     → Contains (targets_of (cache_at v core).misses line) target → core.0 < length v.caches
 waits-known v core line target there = elim (cases_lt core.0 (length v.caches)) [

@@ -157,7 +157,7 @@ counting-waits state =
     implies-at (is_counting state) (is_waiting state)
     (each_state-at (λ s. is_counting s implies is_waiting s) refl state)
 
--- The copy waited, and stands in the array afterwards; and nothing is sent.
+-- The copy waited, and is in the array afterwards; and nothing is sent.
 pub record IsTaken (state next : CopyState) (sent : CacheSends) : Type 0 where
   pub sends : sent ≡ cache_sends.Nothing
   pub waited : is_waiting state ≡ true

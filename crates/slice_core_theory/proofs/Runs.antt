@@ -1,4 +1,4 @@
--- Runs of the small machine: one goes on where another ended.
+-- Runs of the small machine: one continues where another ended.
 use Rattle.std.proofs.Common.{ℕ, List, [], ◌∷◌, ◌++◌, length, inl, inr, sym, ap, ◌∙◌, subst, ⊎_elim}
 use Rattle.slice_core_theory.specs.SmallMachine.{Can, IsSame, SmallMachine, Run, Step, accept, after, entry_for, hand}
 use Rattle.slice_core_theory.specs.SmallMachine.{perform}
@@ -82,7 +82,7 @@ run-on initial [] second m n now one other = run-same initial second m n now one
 run-on initial (step ∷ first) second m n now one other =
     (one.0, run-on initial first second (after initial m step) n now one.1 other)
 
--- A run goes on where another ended.
+-- A run continues where another ended.
 pub leads-on : (u v w : View) (first second : List Step) → Leads first u v → Leads second v w
     → Leads (first ++ second) u w
 leads-on u v w first second one other = record {

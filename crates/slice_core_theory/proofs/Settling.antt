@@ -1,4 +1,4 @@
--- Data or an acknowledgement that a core takes are a step of its line. Where a write is left behind the loads that the
+-- Data or an acknowledgement that a core takes are a step of its line. Where a write is left after the loads that the
 -- data allow, the right to write is asked for by another.
 use Rattle.std.proofs.Common.{◌≡◌, ℕ, ◌<◌, ◌≤◌, ◌&&◌, Bool, true, false, not, if◌then◌else◌, List, ◌++◌, length, Option}
 use Rattle.std.proofs.Common.{Some, None, IfSome, IsSome, is_some, refl, sym, ap, ◌∙◌, subst, true≢false}
@@ -144,7 +144,7 @@ unfolding each_state
 leaves-still state leaves =
     not-at _ (each_state-at (λ s. not (is_leaving s && is_waiting s)) refl state)
 
--- A copy that waits stands in the array.
+-- A copy that waits is in the array.
 pub waits-held : (cache : CoreCacheView) (local : Local) → IsKept cache → is_waiting (state_of cache local) ≡ true
     → IsSome (array_at cache.array local)
 waits-held cache local kept =
@@ -254,7 +254,7 @@ module _ (v : View) (local : Local) (core : CoreId) (some : 0 < length v.caches)
               (filled-counted held front next ∙ sym (ap (λ (c : CacheCopy). c.counted) in_array)),
         )
 
-    -- A slice in which a core takes data goes on as its lines can.
+    -- A slice in which a core takes data continues as its lines can.
     pub fill_reached : (misses : List Register) → AreReached v
         → AreReached (after_settling v local core (channels.Data core) filled_copy misses)
     fill_reached misses =
@@ -307,7 +307,7 @@ module _ (v : View) (local : Local) (core : CoreId) (some : 0 < length v.caches)
               ack_has_row.1 block),
         )
 
-    -- A slice in which a core takes an acknowledgement goes on as its lines can.
+    -- A slice in which a core takes an acknowledgement continues as its lines can.
     pub count_reached : (misses : List Register) → AreReached v
         → AreReached (after_settling v local core (channels.Ack core from) acknowledged_copy misses)
     count_reached misses =

@@ -159,7 +159,7 @@ taken_apart false copy mail part stands = stands
 
 -- ---- the line
 
--- the event that data are for a core that has counted so many acknowledgements, and whether all its targets are loads
+-- the event that data are for a core that has counted `counted` acknowledgements, and whether all its targets are loads
 abbrev pub data_event : ℕ → Bool → DataMessage → CacheEvent
 data_event counted loads (data_messages.Data block acks) = cache_events.Data acks counted
 data_event counted loads (data_messages.DataE block) = cache_events.DataE loads

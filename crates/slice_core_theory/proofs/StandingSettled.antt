@@ -1,4 +1,4 @@
--- Targets that are performed: they leave the front of their line, and stand as the last entries of the log.
+-- Targets that are performed: they leave the front of their line, and become the last entries of the log.
 use Rattle.std.proofs.Common.{◌≡◌, ℕ, ◌+◌, ◌/◌, ◌*◌, ◌<◌, ◌≤◌, inl, inr, Bool, true, false, List, [], ◌∷◌, ◌++◌, length}
 use Rattle.std.proofs.Common.{Some, refl, sym, ap, subst, ◌∙◌, ⊎_elim, arith, eq-eqb, append_assoc}
 use Rattle.std.specs.Prelude.{◌==◌, ◌&&◌, count_by, slice_set, slice_get, All}
@@ -169,7 +169,7 @@ waiting-taken old new line taken takes =
 module _ (log : List Entry) (core : CoreId) (first : ℕ) (block : Block) (old new : List Register) (line : ℕ)
     (taken : List Target)
     (takes : TakesTargets old new line taken) where
-  -- Each stands as its entry now.
+  -- Each is its entry now.
   once-settled : (accepted : ℕ) → StandsOnce log core.0 old accepted
       → StandsOnce (log ++ entries_of core first block taken) core.0 new accepted
   once-settled accepted stands = record {

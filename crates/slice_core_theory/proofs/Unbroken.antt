@@ -451,14 +451,14 @@ module _ (v : View) (local : Local) (shaped : IsShaped v) (inside : local.0 < v.
             absurd (cc nothing)
       ]
 
--- No message of a line is broken, where each copy that waits stands in its array.
+-- No message of a line is broken, where each copy that waits is in its array.
 pub nothing_is_broken : (v : View) → IsShaped v → 0 < length v.caches → length v.caches ≤ 64 → WaitsInArray v
     → AreReached v → NothingIsBroken v
 nothing_is_broken v shaped some most waiting all local channel cell inside =
     let line = all local inside in
     channel_unbroken v local shaped inside most waiting line.0 line.1 line.2 cell channel some
 
--- A copy that waits isn't one that leaves, and so stands in its array.
+-- A copy that waits isn't one that leaves, and so is in its array.
 waits_in_array : (v : View) → IsWhole v → WaitsInArray v
 waits_in_array v whole core local below inside waits =
     by (array_at (cache_at v core).array local) (buffer_at (cache_at v core).buffer.write_backs local.0)

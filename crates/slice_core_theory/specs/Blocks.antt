@@ -1,4 +1,4 @@
--- Where the blocks of a slice's line stand, and that they are those of the protocol's machine.
+-- Where the blocks of a slice's line are, and that they are those of the protocol's machine.
 use Rattle.std.specs.Prelude.{◌≡◌, ℕ, ◌+◌, ◌<◌, Bool, true, false, List, length, slice_index, Option, Some, None}
 use Rattle.std.specs.Prelude.{unwrap_or}
 use Rattle.address_map.specs.declared.address.Local.{Local}

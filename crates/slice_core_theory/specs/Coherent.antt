@@ -20,7 +20,7 @@ HasOneWriter v = (local : Local) (c d : CoreId) → local.0 < v.lines.lines → 
     → IsTrue (is_writer (state_of (cache_at v c) local)) → IsTrue (is_readable (state_of (cache_at v d) local))
     → c.0 ≡ d.0
 
--- A copy that waits stands in its core's array.
+-- A copy that waits is in its core's array.
 abbrev pub WaitsInArray : View → Type 0
 WaitsInArray v = (core : CoreId) (local : Local) → core.0 < length v.caches → local.0 < v.lines.lines
     → IsTrue (is_waiting (state_of (cache_at v core) local)) → IsSome (array_at (cache_at v core).array local)

@@ -1,4 +1,4 @@
--- What the account of a core's requests says to those who ask.
+-- What the account of a core's requests says to a caller.
 use Rattle.std.specs.Prelude.{◌≡◌, ◌≢◌, ℕ, ◌+◌, ◌<◌, ◌≤◌, List, count_by}
 use Rattle.address_map.specs.Locator.{Lines}
 use Rattle.mshr_file.specs.Miss.{count_of, has_tag}
@@ -15,14 +15,14 @@ Follows Law =
     (lines : Lines) (log : List Entry) (core : ℕ) (misses : List Register) (states : List TagState) (accepted : ℕ)
     → IsAccount lines log core misses states accepted → Law log core misses states accepted
 
--- A request that was accepted stands in one place, and another nowhere.
+-- A request that was accepted is in one place, and another nowhere.
 abbrev pub EachStandsOnce : Type 0
 EachStandsOnce =
     Follows
     (λ log core misses states accepted. (seq : ℕ) → (seq < accepted → standings misses log core seq ≡ 1)
     × (accepted ≤ seq → standings misses log core seq ≡ 0))
 
--- As many were accepted as wait and were performed.
+-- The requests accepted are as many as those that wait and those performed.
 abbrev pub AcceptedIsAll : Type 0
 AcceptedIsAll = Follows (λ log core misses states accepted. accepted ≡ target_count misses + count_by (is_of core) log)
 

@@ -20,9 +20,9 @@ abbrev pub carried_block : DataMessage → Block
 carried_block (data_messages.Data block acks) = block
 carried_block (data_messages.DataE block) = block
 
--- Each copy that may be read has the values that the log gives, and so has the home copy of a line that nobody has or
--- that is shared. So have the blocks under way: the data that wait for a core, the block that the line's owner gives up
--- with its PutM, and the block on its way home.
+-- Each copy that may be read has the values that the log gives, and so has the home copy of a line that no core has or
+-- that is shared. So have the blocks under way: the data that wait for a core, the block that the line's owner writes
+-- back with its PutM, and the block on its way home.
 pub record HasNewest (v : View) : Type 0 where
   pub copies : (local : Local) (core : CoreId) → local.0 < v.lines.lines → core.0 < length v.caches
       → IsTrue (is_readable (state_of (cache_at v core) local))

@@ -65,7 +65,7 @@ next_of v core request = record {
   tag = request.tag;
 }
 
--- what a request that is answered so does: what is done at once is accepted, performed and handed out, and what is
+-- what a request with this answer does: what is done at once is accepted, performed and handed out, and what is
 -- pending is accepted
 abbrev pub issue_steps : Asked → Result Issue Refused → List Step
 issue_steps r (Ok (issues.Done number)) = accept r ∷ perform r ∷ hand number ∷ []

@@ -1,4 +1,4 @@
--- One core's requests: each that was accepted stands in exactly one place. It is a target of a miss register, or an
+-- One core's requests: each that was accepted is in exactly one place. It is a target of a miss register, or an
 -- entry of the log: a reply as long as a tag names its number, and handed out otherwise.
 use Rattle.std.specs.Prelude.{◌≡◌, ℕ, ◌+◌, ◌/◌, ◌<◌, ◌==◌, ◌&&◌, nat_lt, nat_le, Bool, true, false, not, if◌then◌else◌}
 use Rattle.std.specs.Prelude.{List, length, count_by, slice_get, Some, All}
@@ -12,7 +12,7 @@ use Rattle.slice_core_cache.specs.declared.tags.TagState.TheVariants as tag_stat
 use Rattle.slice_log.specs.declared.entry.Entry.{Entry}
 use Rattle.target_list.specs.declared.target.Target.{Target}
 
--- ---- where a request stands
+-- ---- where a request is
 
 -- the entry is one of the core's
 abbrev pub is_of : ℕ → Entry → Bool
@@ -26,7 +26,7 @@ is_request core seq entry = is_of core entry && (entry.seq == seq)
 abbrev pub has_seq : ℕ → Target → Bool
 has_seq seq target = target.seq == seq
 
--- in how many places the core's request of this number stands: as a target, or as an entry of the log
+-- in how many places the core's request of this number is: as a target, or as an entry of the log
 abbrev pub standings : List Register → List Entry → ℕ → ℕ → ℕ
 standings misses log core seq = count_of (has_seq seq) misses + count_by (is_request core seq) log
 
@@ -38,7 +38,7 @@ target_count misses = count_of (λ target. true) misses
 abbrev pub HasNoEntry : ℕ → List Entry → Type 0
 HasNoEntry core log = count_by (is_of core) log ≡ 0
 
--- The requests that were accepted are those of the numbers below this one, each in one place, and no other stands
+-- The requests that were accepted are those of the numbers below this one, each in one place, and no other is
 -- anywhere.
 pub record StandsOnce (log : List Entry) (core : ℕ) (misses : List Register) (accepted : ℕ) : Type 0 where
   pub once : (seq : ℕ) → standings misses log core seq ≡ (if nat_lt seq accepted then 1 else 0)
@@ -50,7 +50,7 @@ pub record StandsOnce (log : List Entry) (core : ℕ) (misses : List Register) (
 abbrev pub is_performable : Target → Bool
 is_performable target = nat_lt target.offset.0 8 && nat_lt target.tag 64
 
--- the target was asked for when the log had no more than so many entries
+-- the target was asked for when the log had no more than `now` entries
 abbrev pub is_asked_by : ℕ → Target → Bool
 is_asked_by now target = nat_le target.since now
 
@@ -93,7 +93,7 @@ pub record StandsInOrder (lines : Lines) (log : List Entry) (core : ℕ) (misses
 
 -- ---- all together
 
--- All that holds of one core's requests, where its tags name these and so many were accepted.
+-- All that holds of one core's requests, where its tags name these and `accepted` were accepted.
 pub record IsAccount (lines : Lines) (log : List Entry) (core : ℕ) (misses : List Register) (states : List TagState)
     (accepted : ℕ) : Type 0 where
   pub standing : StandsOnce log core misses accepted

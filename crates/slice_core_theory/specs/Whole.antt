@@ -9,7 +9,7 @@ use Rattle.slice_core_cache.specs.Kept.{IsKept}
 use Rattle.slice_core_cache.specs.Targets.{IsPerformable}
 use Rattle.slice_core_spec.specs.View.{View, IsShaped, cache_at}
 
--- Its shape; that it has no more cores than a set can have; that each core's copies stand where they belong; and that
+-- Its shape; that it has no more cores than a set can have; that each core's copies are where they belong; and that
 -- the arrays hold lines of the slice alone.
 pub record IsWhole (v : View) : Type 0 where
   pub shaped : IsShaped v

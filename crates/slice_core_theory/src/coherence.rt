@@ -93,7 +93,7 @@ pub fn one_core_writes_or_many_read()
     ensures { (v : View) → length v.caches ≤ 64 → AreReached v → HasOneWriter v }
 {}
 
-/// Where each line is one that the machine reaches, no message is broken, and no delivery answers that one is.
+/// Where each line is one that the machine reaches, no message is broken, and no delivery returns that one is.
 pub fn no_message_is_broken()
     ensures message { (v : View) → IsWhole v → 0 < length v.caches → AreReached v → NothingIsBroken v }
     ensures named { (old new : PartsView) (pick : Pick) (answer : Delivered) (cell : Cell) → NothingIsBroken old.view
@@ -108,7 +108,7 @@ pub fn no_channel_is_overfull()
     ensures { (v : View) → IsWhole v → 0 < length v.caches → AreReached v → HasBoundedChannels v }
 {}
 
-/// Each copy that may be read, and the home copy while nobody has the only one, has what was last performed. Once the
+/// Each copy that may be read, and the home copy while no core has the only one, has what was last performed. Once the
 /// slice is quiet, so has the block that the directory's entry points to.
 pub fn each_block_is_newest()
     ensures reached { (v : View) → IsFaithful v → AreReached v }

@@ -2,7 +2,7 @@
 //!
 //! `slice_core_spec` says what each call leaves of a slice's value; three theories say what that keeps.
 //!
-//! - `standing`: each request that a core had accepted stands in exactly one place (specs/Standing.antt).
+//! - `standing`: each request that a core had accepted is in exactly one place (specs/Standing.antt).
 //! - `coherence`: each line is a line of the protocol's machine (specs/Stands.antt), so what `protocol_coherence` proves
 //!   of that is true of the slice (specs/Coherent.antt, specs/Newest.antt).
 //! - `machine`: each call is steps of a small machine of requests and replies (specs/SmallMachine.antt, specs/Shows.antt).

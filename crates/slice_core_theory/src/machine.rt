@@ -1,4 +1,4 @@
-//! What a slice is to somebody who sees only requests and replies.
+//! What a slice is to an observer of only requests and replies.
 //!
 //! `specs/SmallMachine.antt` is a small machine that has a log, requests that wait and replies that wait. It accepts
 //! requests, performs them one at a time, the oldest of a core on a line first, and hands out replies.
@@ -52,7 +52,7 @@ pub fn issue_is_steps()
         → Leads (issue_steps (next_of old.view core request) answer) old.view new.view }
 {}
 
-/// An eviction is no step, whatever it answers.
+/// An eviction is no step, whatever it returns.
 pub fn evict_is_no_step()
     ensures { (old new : PartsView) (core : CoreId) (line : LineAddr) (answer : Evicted)
         → core.0 < length old.view.caches → AfterEvict old core line answer new → Leads [] old.view new.view }
@@ -69,7 +69,7 @@ pub fn deliveries_are_steps()
         → Performs old.view new.view }
 {}
 
-/// The steps of one call go on where those of the call before ended, so a list of calls is one run of the machine.
+/// The steps of one call begin where those of the call before ended, so a list of calls is one run of the machine.
 pub fn runs_go_on()
     ensures { (u v w : View) (first second : List Step) → Leads first u v → Leads second v w
         → Leads (first ++ second) u w }

@@ -36,7 +36,7 @@ shown_line v line (Some local) view (given, is, dir, owner, sharers, home, copie
     ≡ text_of_place v line (Some local)) same
     (rw (dir, owner, sharers, home) refl)
 
--- no message of it waits where there is no place
+-- no message of it waits if there is no place
 pub no_mail : (v : View) (line : LineAddr) (local : Option Local) → local ≡ None → codes "}" ≡ text_of_mail v line local
 no_mail v line None none = refl
 no_mail v line (Some local) none = absurd (cc)

@@ -19,7 +19,7 @@ first_text {W} {X} took text first (y ∷ ys) rest x at behind old mid new last 
     (subst (λ (z : X). WritesInCalls took mid (text z) new) is one))
     (subst (λ (zs : List X). WritesInCalls took new (with_commas_from false (map text zs)) last) behind more)
 
--- what holds where a result is fine, holds of it
+-- what holds if a result is Ok holds of it
 pub on_ok_from : {T E P : Type 0} (r : Result T E) → (IsOk r → P) → OnOk r P
 on_ok_from (Ok x) holds = holds refl
 on_ok_from (Err e) holds = tt

@@ -6,7 +6,7 @@ use Rattle.litmus_text.specs.JsonList.{with_commas}
 use Rattle.slice_log.specs.declared.entry.Entry.{Entry}
 use Rattle.target_list.specs.declared.target.Target.{Target}
 
--- what an access asks for, with its operands as strings of their digits
+-- an access, with its operands as strings of their digits
 abbrev pub text_of_op : Op → List ℕ
 text_of_op ops.Load = codes "\"op\":\"load\""
 text_of_op (ops.Store value) = codes "\"op\":\"store\",\"value\":\"" ++ decimal value ++ codes "\""
@@ -40,6 +40,6 @@ abbrev pub text_of_place : ℕ → ℕ → List ℕ
 text_of_place slice first =
     codes "{\"slice\":" ++ decimal slice ++ codes ",\"first\":" ++ decimal first ++ codes ",\"entries\":["
 
--- what a slice's log has from this number on
+-- the entries of a slice's log from this number on
 abbrev pub text_of_log : ℕ → ℕ → List Entry → List ℕ
 text_of_log slice first log = text_of_place slice first ++ (list_of_entries (drop first log) ++ codes "]}")

@@ -14,7 +14,7 @@ use Rattle.slice_core_cache.specs.declared.copy.CacheCopy.{CacheCopy}
 use Rattle.slice_core_spec.specs.View.{View}
 use Rattle.target_list.specs.declared.target.Target.{Target}
 
--- a copy in this state has a block: not before its data come, nor once it was given up to another core
+-- a copy in this state has a block: not before its data come, nor after they were passed to another core
 abbrev pub has_block : CopyState → Bool
 has_block copy_states.I = false
 has_block copy_states.IS_D = false
@@ -31,19 +31,19 @@ is_told state = true
 abbrev pub block_of : CacheCopy → Option Block
 block_of copy = if has_block copy.state then Some copy.block else None
 
--- of how many acknowledgements
+-- the number of acknowledgements that it needs
 abbrev pub text_of_needed : CacheCopy → List ℕ
 text_of_needed copy =
     if is_told copy.state then codes "\"needed\":" ++ decimal copy.wants ++ codes ",\"block\":"
     else codes "\"needed\":null,\"block\":"
 
--- whose copy of which line it is, its state, and how many acknowledgements it has got
+-- its core and line, its state, and the number of acknowledgements that it has got
 abbrev pub text_of_head : CoreId → LineAddr → CacheCopy → List ℕ
 text_of_head core line copy =
     codes "{\"core\":" ++ decimal core.0 ++ codes ",\"line\":" ++ decimal line.0 ++ codes ",\"state\":\""
     ++ name_of copy.state ++ codes "\",\"got\":" ++ decimal copy.counted ++ codes ","
 
--- a copy with its block and the accesses that wait for it, or null where there is none
+-- a copy with its block and the accesses that wait for it, or null if there is none
 abbrev pub text_of_held : CoreId → LineAddr → Option CacheCopy → List Target → List ℕ
 text_of_held core line None targets = codes "null"
 text_of_held core line (Some copy) targets =

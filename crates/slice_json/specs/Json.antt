@@ -12,8 +12,8 @@ use Rattle.slice_text.specs.Cores.{text_of_cores}
 abbrev pub hex_digit : ℕ → ℕ
 hex_digit number = get_or (codes "0123456789abcdef") number 0
 
--- the bytes that stand for themselves: those that are printed, but what ends a string, begins an escape, or begins a
--- tag of HTML
+-- the bytes that represent themselves: those that are printed, except what ends a string, begins an escape, or begins
+-- an HTML tag
 abbrev pub is_plain : ℕ → Bool
 is_plain byte = nat_le 32 byte && nat_lt byte 127 && not (byte == 34 || byte == 92 || byte == 60)
 
@@ -39,7 +39,7 @@ text_of_value value = codes "\"" ++ decimal value ++ codes "\""
 abbrev pub list_of_values : List ℕ → List ℕ
 list_of_values words = codes "[" ++ (with_commas (map text_of_value words) ++ codes "]")
 
--- a block, or null where there is none
+-- a block, or null if there is none
 abbrev pub text_of_block : Option Block → List ℕ
 text_of_block None = codes "null"
 text_of_block (Some block) = list_of_values block.words

@@ -1,4 +1,4 @@
--- A line as data: the directory's entry, the home copy, and the messages in front of its channels.
+-- A line as data: the directory's entry, the home copy, and the messages at the fronts of its channels.
 use Rattle.std.specs.Prelude.{ℕ, List, ◌++◌, codes, decimal, Option, Some, None}
 use Rattle.address_map.specs.Locator.{local_at}
 use Rattle.address_map.specs.declared.address.CoreId.{CoreId}
@@ -38,7 +38,7 @@ abbrev pub text_of_place : View → LineAddr → Option Local → List ℕ
 text_of_place v line None = codes "null"
 text_of_place v line (Some local) = text_with line (entry_at v local) (text_of_mail v line (Some local))
 
--- what a slice has of a line, or null where it isn't the slice's
+-- a slice's view of a line, or null if the line isn't the slice's
 abbrev pub text_of_line : View → LineAddr → List ℕ
 text_of_line v line = text_of_place v line (local_at v.lines line.0)
 

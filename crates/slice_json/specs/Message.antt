@@ -1,4 +1,4 @@
--- The messages of a line as data: the one in front of each channel, with what a delivery would do with it.
+-- The messages of a line as data: the one at the front of each channel, with what a delivery would do with it.
 use Rattle.std.specs.Prelude.{ℕ, List, ◌++◌, codes, decimal, map, Option, Some, None}
 use Rattle.address_map.specs.Locator.{local_at}
 use Rattle.address_map.specs.declared.address.LineAddr.{LineAddr}
@@ -21,7 +21,7 @@ use Rattle.slice_queues.specs.declared.message.Message.TheVariants as messages
 use Rattle.slice_queues.specs.declared.message.RequestMessage.{RequestMessage}
 use Rattle.slice_queues.specs.declared.message.RequestMessage.TheVariants as request_messages
 
--- a channel: its class, who sends on it where the machine knows that, and who takes from it
+-- a channel: its class, its sender if the machine knows it, and its receiver
 abbrev pub text_of_ends : Channel → List ℕ
 text_of_ends (channels.Req core) =
     codes "\"class\":\"req\",\"from\":" ++ decimal core.0 ++ codes ",\"to\":\"directory\""
@@ -74,7 +74,7 @@ text_of_begin channel message =
 abbrev pub text_of_end : Delivery Transition → List ℕ
 text_of_end plan = codes ",\"fate\":\"" ++ text_of_fate plan ++ codes "\"}"
 
--- a message in front of a channel, for which this is planned
+-- a message at the front of a channel, for which this is planned
 abbrev pub text_of_message : Channel → Message → Delivery Transition → List ℕ
 text_of_message channel message plan =
     text_of_begin channel message ++ (text_of_block (block_in message) ++ text_of_end plan)
@@ -83,7 +83,7 @@ abbrev pub text_of_front : Channel → Option Message → Delivery Transition �
 text_of_front channel None plan = codes "null"
 text_of_front channel (Some message) plan = text_of_message channel message plan
 
--- what is in front of a channel of a line
+-- what is at the front of a channel of a line
 abbrev pub text_at : View → LineAddr → Channel → List ℕ
 text_at v line channel =
     let pick = pick_at line channel in

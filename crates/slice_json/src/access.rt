@@ -12,7 +12,7 @@ use slice_core::Entry;
 use std::fmt;
 use std::fmt::Write;
 
-/// What an access asks for, with its operands as strings of their digits.
+/// An access, with its operands as strings of their digits.
 #[derive(Clone, Copy)]
 pub struct Asked(pub Op);
 
@@ -74,7 +74,7 @@ fn write_target<W: Write>(target: Target, out: &mut W) -> fmt::Result
     )
 }
 
-/// Writes what a slice's log has from this number on.
+/// Writes the entries of a slice's log from this number on.
 pub fn write_log<W: Write>(slice: usize, first: usize, log: &[Entry], out: &mut W) -> fmt::Result
     ensures { OnOk result (WritesInCalls W.write_str_gives out.old (text_of_log slice first log.now) out.new) }
 {

@@ -12,7 +12,7 @@ use slice_core::{CacheCopy, CopyState, SliceState};
 use std::fmt;
 use std::fmt::Write;
 
-/// Writes a core's copy of a line, or null where there is none or it isn't the slice's.
+/// Writes a core's copy of a line, or null if there is none or the line isn't the slice's.
 pub fn write_copy_in<F: MissFile, W: Write>(
     state: &SliceState<F>,
     core: CoreId,
@@ -82,7 +82,7 @@ fn block_of(copy: &CacheCopy) -> Option<Block>
     }
 }
 
-/// Whether a copy in this state has a block: not before its data come, nor once it was given up to another core.
+/// Whether a copy in this state has a block: not before its data come, nor after they were passed to another core.
 const fn has_block(state: CopyState) -> bool
     ensures { result ≡ has_block state }
 {

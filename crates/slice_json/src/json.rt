@@ -12,8 +12,8 @@ use slice_text::Cores;
 use std::fmt;
 use std::fmt::Write;
 
-/// Writes bytes as a string of JSON, in which no tag of HTML begins. A byte that isn't ASCII stands for the character
-/// of its number.
+/// Writes bytes as a JSON string, in which no HTML tag begins. A byte that isn't ASCII represents the character of its
+/// number.
 pub fn write_json<W: Write>(bytes: &[u8], out: &mut W) -> fmt::Result
     ensures { OnOk result (WritesInCalls W.write_str_gives out.old (json_of bytes.now) out.new) }
 {
@@ -50,7 +50,7 @@ fn write_as<W: Write>(plain: bool, byte: u8, out: &mut W) -> fmt::Result
     write_ascii(hex_digit(byte % 16), out)
 }
 
-/// Writes a byte that is a character of ASCII.
+/// Writes a byte that is an ASCII character.
 fn write_ascii<W: Write>(byte: u8, out: &mut W) -> fmt::Result
     requires { byte < 128 }
     ensures { OnOk result (WritesInCalls W.write_str_gives out.old (byte ∷ []) out.new) }
@@ -58,7 +58,7 @@ fn write_ascii<W: Write>(byte: u8, out: &mut W) -> fmt::Result
     out.write_char(byte as char)
 }
 
-/// Whether a byte stands for itself.
+/// Whether a byte represents itself.
 fn is_plain(byte: u8) -> bool
     ensures plain { result ≡ is_plain byte }
     ensures ascii { IsTrue result → byte < 128 }
@@ -84,7 +84,7 @@ pub fn write_block<W: Write>(block: Option<Block>, out: &mut W) -> fmt::Result
     }
 }
 
-/// Writes a list of words. Each is a string, since a number of JSON may be read with fewer bits.
+/// Writes a list of words. Each is a string, since a JSON number may be read with fewer bits.
 pub fn write_values<W: Write>(words: &[u64], out: &mut W) -> fmt::Result
     ensures { OnOk result (WritesInCalls W.write_str_gives out.old (list_of_values words.now) out.new) }
 {

@@ -1,4 +1,4 @@
-//! What a slice has, as data: values of JSON (RFC 8259).
+//! What a slice has, as data: JSON values (RFC 8259).
 //!
 //! [`write_line_in`] writes a line with its directory entry and its messages (specs/Line.antt, specs/Message.antt),
 //! [`write_copy_in`] a core's copy of it with the accesses that wait (specs/Copy.antt), and [`write_log`] accesses that

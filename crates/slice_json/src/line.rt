@@ -1,4 +1,4 @@
-//! A line as data: the directory's entry, the home copy, and the messages in front of its channels.
+//! A line as data: the directory's entry, the home copy, and the messages at the fronts of its channels.
 ghost use Rattle.std.specs.Prelude.{OnOk};
 ghost use Rattle.std.specs.Fmt.{WritesInCalls};
 ghost use Rattle.address_map.specs.Locator.{local_at};
@@ -12,7 +12,7 @@ use slice_core::{DirState, SliceState};
 use std::fmt;
 use std::fmt::Write;
 
-/// Writes what a slice has of a line, or null where there is none or it isn't the slice's.
+/// Writes a slice's view of a line, or null if there is none or the line isn't the slice's.
 pub fn write_line_in<F: MissFile, W: Write>(
     state: &SliceState<F>,
     line: Option<LineAddr>,

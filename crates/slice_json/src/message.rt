@@ -1,4 +1,4 @@
-//! The messages of a line as data: the one in front of each channel.
+//! The messages of a line as data: the one at the front of each channel.
 ghost use Rattle.std.specs.Prelude.{◌≡◌, OnOk, map};
 ghost use Rattle.std.specs.Fmt.{WritesInCalls};
 ghost use Rattle.litmus_text.specs.JsonList.{with_commas};
@@ -16,7 +16,7 @@ use slice_queues::Channel;
 use std::fmt;
 use std::fmt::Write;
 
-/// Writes a list of the messages in front of a line's channels, in the order in which `waiting` prints them.
+/// Writes a list of the messages at the fronts of a line's channels, in the order in which `waiting` prints them.
 pub fn write_messages<F: MissFile, W: Write>(
     state: &SliceState<F>,
     line: LineAddr,
@@ -50,7 +50,7 @@ fn write_fronts<F: MissFile, W: Write>(
     Ok(())
 }
 
-/// Writes the message in front of a channel of a line.
+/// Writes the message at the front of a channel of a line.
 fn write_front<F: MissFile, W: Write>(
     state: &SliceState<F>,
     line: LineAddr,
@@ -95,7 +95,7 @@ fn write_end<W: Write>(plan: Plan, out: &mut W) -> fmt::Result
     write!(out, ",\"fate\":\"{fate}\"}}")
 }
 
-/// The block that a message carries.
+/// Returns the block that a message carries.
 const fn block_in(message: Message) -> Option<Block>
     ensures { result ≡ block_in message }
 {
@@ -108,7 +108,7 @@ const fn block_in(message: Message) -> Option<Block>
     }
 }
 
-/// What a delivery would do with a message.
+/// Returns what a delivery would do with a message.
 pub const fn fate_by(plan: Plan) -> &'static str
     ensures { result.now ≡ text_of_fate plan }
 {
@@ -120,7 +120,7 @@ pub const fn fate_by(plan: Plan) -> &'static str
     }
 }
 
-/// A channel: its class, who sends on it where the machine knows that, and who takes from it.
+/// A channel: its class, its sender if the machine knows it, and its receiver.
 #[derive(Clone, Copy)]
 pub struct Ends(pub Channel);
 

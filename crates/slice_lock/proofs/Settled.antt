@@ -1,4 +1,4 @@
--- What can be said of settled ports where nobody sees the state.
+-- What can be said of settled ports where the state isn't seen.
 use Rattle.std.proofs.Common.{◌≡◌, ℕ, ◌∙◌, List, map, subst, sym}
 use Rattle.address_map.specs.declared.address.WordAddr.{WordAddr}
 use Rattle.address_map.specs.declared.config.Config.{Config}

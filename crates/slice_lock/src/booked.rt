@@ -57,7 +57,7 @@ impl<F: MissFile, N: SliceNames> Booked<F, N> {
         self.book.hand_out(&mut self.state, port)
     }
 
-    /// Tells the port of a receipt.
+    /// Notifies the port of a receipt.
     pub fn learn(&self, port: &mut Port<N>, receipt: &Receipt) -> Result<(), LearnError>
         ensures known { IsOk result ↔ IsKnown port.old.slice self.now.state.view.log receipt.now }
         ensures learnt { OnOk result (port.new ≡ with_seen port.old receipt.now.number) }
@@ -66,7 +66,7 @@ impl<F: MissFile, N: SliceNames> Booked<F, N> {
         self.book.learn(&self.state, port, receipt)
     }
 
-    /// Gives up a core's copy of a line.
+    /// Evicts a core's copy of a line.
     pub fn evict(&mut self, core: CoreId, line: LineAddr) -> Evicted
         requires { core.0 < N.setup.cores }
         ensures step { AfterEvict self.old.state core line result self.new.state }
@@ -124,7 +124,7 @@ impl<F: MissFile, N: SliceNames> Booked<F, N> {
         Ok(values)
     }
 
-    /// The state, of which all that holds after every call holds.
+    /// Returns the state. All that holds after every call holds of it.
     pub fn state(&self) -> &SliceState<F>
         ensures same { result.now ≡ self.now.state }
         ensures shown { IsShown N.setup (F.bound_by N.setup) N.number result.now }

@@ -20,17 +20,17 @@ use std::sync::{Mutex, MutexGuard, Wait};
 /// Why a slice isn't settled.
 #[derive(Clone, Copy, Debug, PartialEq, Eq)]
 pub enum Unsettled {
-    /// A message is in flight, a miss register is held, a line leaves, or a reply isn't handed out.
+    /// A message is in flight, a miss register is held, a write-back is pending, or a reply isn't handed out.
     NotQuiet,
     /// The slice is quiet, and the ports' requests and receipts aren't its log.
     Differs,
 }
 
-/// A question about a slice's state. Whoever answers it may rely on all that holds of the state after every call.
+/// A question about a slice's state. An implementation may rely on all that holds of the state after every call.
 pub trait Question<F: MissFile> {
     type Answer;
 
-    /// Looks at the state, and answers.
+    /// Looks at the state, and returns the answer.
     fn ask(self, state: &SliceState<F>) -> Self::Answer
         requires { Holds state.now };
 }
@@ -42,7 +42,8 @@ pub struct Slice<F: MissFile, N: SliceNames> {
 }
 
 impl<F: MissFile, N: SliceNames> Slice<F, N> {
-    /// A slice of the configured machine in which nothing was asked for yet, and a port for each core, ascending.
+    /// Returns a slice of the configured machine in which nothing was requested yet, and a port for each core,
+    /// ascending.
     pub fn build(
         alloc: Global,
         config: &Checked,
@@ -93,8 +94,8 @@ impl<F: MissFile, N: SliceNames> Slice<F, N> {
         self.booked.lock(rt).collect(port)
     }
 
-    /// Tells the port of a receipt, which another core of the slice may have got: one of another slice, or whose entry
-    /// the log doesn't have at its number, is `Unknown`. It takes no memory.
+    /// Notifies the port of a receipt, which another core of the slice may have got: one of another slice, or whose
+    /// entry the log doesn't have at its number, is `Unknown`. It allocates nothing.
     pub fn learn<R: Wait>(
         &self,
         rt: &R,
@@ -108,7 +109,7 @@ impl<F: MissFile, N: SliceNames> Slice<F, N> {
         self.booked.lock(rt).learn(port, receipt)
     }
 
-    /// Gives up the copy of a line that the port's core has, or says why not.
+    /// Evicts the copy of a line that the port's core has, or says why not.
     pub fn evict<R: Wait>(&self, rt: &R, port: &mut Port<N>, line: LineAddr) -> Evicted
         ensures { port.new ≡ port.old }
     {
@@ -129,14 +130,15 @@ impl<F: MissFile, N: SliceNames> Slice<F, N> {
         self.booked.lock(rt).deliver_next(class)
     }
 
-    /// Whether no message is in flight, no miss register is held, no line leaves and each reply is handed out.
+    /// Whether no message is in flight, no miss register is held, no write-back is pending and each reply is handed
+    /// out.
     pub fn quiet<R: Wait>(&self, rt: &R) -> bool {
         self.booked.lock(rt).is_quiet()
     }
 
-    /// Settles the slice with all its ports, each lent by whoever holds it: the value of each counter of the slice,
-    /// ascending by word. The ports' receipts are then exactly the slice's log, as it was asked for. It takes no
-    /// memory, and leaves the ports as they were.
+    /// Settles the slice with all its ports, each borrowed from its holder: returns the value of each counter of it,
+    /// ascending by word. The ports' receipts are then exactly the slice's log, as it was asked for. It allocates
+    /// nothing, and leaves the ports as they were.
     pub fn settle<R: Wait, T: Lends<Port<N>, K>, const K: usize>(
         &self,
         rt: &R,
@@ -149,7 +151,7 @@ impl<F: MissFile, N: SliceNames> Slice<F, N> {
         self.booked.lock(rt).settle(ports)
     }
 
-    /// Asks a question about the state while the lock is held, and answers it.
+    /// Asks a question about the state while the lock is held, and returns the answer.
     pub fn inspect<R: Wait, Q: Question<F>>(&self, rt: &R, question: Q) -> Q::Answer {
         question.ask(self.look(rt).state())
     }
@@ -170,7 +172,7 @@ pub struct Look<'a, F: MissFile, N: SliceNames> {
 }
 
 impl<F: MissFile, N: SliceNames> Look<'_, F, N> {
-    /// The state. Whoever looks may rely on all that holds of it after every call.
+    /// Returns the state. The caller may rely on all that holds of it after every call.
     pub fn state(&self) -> &SliceState<F>
         ensures { IsShown N.setup (F.bound_by N.setup) N.number result.now }
     {

@@ -73,7 +73,7 @@ illegal-stale_load : IsLegal (initially ((record { 0 = 3 }, 9) ∷ [])) (perform
 unfolding value
 illegal-stale_load legal = differ 7 9 (omega arith) (sym (legal.replies 1 (performed_at 3 ops.Load 9) refl))
 
--- Core 0's two loads of line 0 stand in its order, and core 1's load between them is in no order with either.
+-- Core 0's two loads of line 0 are in its order, and core 1's load between them is in no order with either.
 ordered-by_core : IsOrdered (asked_at 0 3 1 0 ∷ asked_at 1 3 0 0 ∷ asked_at 0 4 2 2 ∷ [])
 ordered-by_core =
     let a = asked_at 0 3 1 0 in

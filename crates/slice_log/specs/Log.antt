@@ -62,7 +62,7 @@ pub record IsLegal (initial : ℕ → ℕ) (log : List Entry) : Type 0 where
 abbrev pub IsAfter : Entry → Entry → Type 0
 IsAfter d e = d.core ≡ e.core → d.word.0 / 8 ≡ e.word.0 / 8 → d.seq < e.seq
 
--- A log is ordered: each core's entries on a line stand in the order in which it asked for them, and no entry was
+-- A log is ordered: each core's entries on a line are in the order in which it asked for them, and no entry was
 -- performed before it was asked for.
 pub record IsOrdered (log : List Entry) : Type 0 where
   pub core_order : (j k : ℕ) (d e : Entry) → j < k → slice_get log j ≡ Some d → slice_get log k ≡ Some e → IsAfter d e

@@ -2,7 +2,7 @@ ghost use Rattle.std.specs.Prelude.{◌≡◌};
 
 use super::forwarded_queue::ForwardedQueue;
 use address_map::CoreSet;
-use super::{DataMessage, RequestMessage};
+use super::message::{DataMessage, RequestMessage};
 use std::marker::Model;
 
 /// One core's channels of a line: its request to the directory, and what waits for it.
@@ -45,7 +45,7 @@ impl CoreQueues {
         }
     }
 
-    /// The same messages.
+    /// Returns a copy of the messages.
     pub fn copy(&self) -> Self
         ensures { result ≡ self.now }
     {

@@ -1,7 +1,7 @@
 ghost use Rattle.std.specs.Prelude.{◌≡◌, ◌<◌, ◌++◌, [], ◌∷◌, length, nat_lt, slice_get, drop, IsTrue, ◌↔◌};
 ghost use Rattle.std.specs.Option.{option_copied};
 
-use super::ForwardedMessage;
+use super::message::ForwardedMessage;
 
 /// At most two forwarded messages, the oldest first.
 #[derive(Clone, Copy, Debug, PartialEq, Eq)]

@@ -30,7 +30,7 @@
 //!   [`Queues::picks_from`] round and round from a start line (specs/Waiting.antt), and both give each pick with a
 //!   message once and no other (`HasEachPickOnce`).
 //!
-//! All memory is taken by [`Queues::build`], the only call that can fail: 184 bytes for each core of a line, and 129
+//! Only [`Queues::build`] and [`Queues::try_clone`] allocate, and only they can fail: 184 bytes for each core of a line, and 129
 //! for the line, 9 of them for the ring. What is for a line's cores is touched once something is sent to the line
 //! (specs/Runs.antt), so the largest slice, 65536 lines of 64 cores, begins with 8 MB of the 780 that it may come to. A
 //! send or a take costs the same whatever the number of lines and cores, but for the first change of a line, and so

@@ -2,7 +2,8 @@ ghost use Rattle.std.specs.Prelude.{◌≡◌, ◌↔◌, slice_get, IsTrue};
 ghost use Rattle.slice_queues.specs.Line.{messages_at, HasChannel, HasRoom};
 
 use super::line_queues::LineQueues;
-use super::{Channel, Message};
+use super::channel::Channel;
+use super::message::Message;
 
 /// The channels by their names.
 impl LineQueues<'_> {
@@ -20,7 +21,7 @@ impl LineQueues<'_> {
             }
     }
 
-    /// The oldest message of the channel. `None` too where the line has no such channel.
+    /// Returns the oldest message of the channel. `None` too where the line has no such channel.
     pub fn front(&self, channel: Channel) -> Option<Message>
         ensures { result ≡ slice_get (messages_at self.now channel) 0 }
     {

@@ -7,7 +7,8 @@ use super::core_queues::CoreQueues;
 use super::lines::LineHead;
 use super::waiting::{ChannelsLeft, LineWaiting};
 use address_map::{Block, CoreId, CoreSet};
-use super::{Channel, Class, DataMessage, ForwardedMessage, RequestMessage};
+use super::channel::{Channel, Class};
+use super::message::{DataMessage, ForwardedMessage, RequestMessage};
 use std::marker::Model;
 
 /// The channels of one line, to be looked at.
@@ -35,7 +36,7 @@ impl<'a> LineQueues<'a> {
     ghost use Rattle.slice_queues.specs.Line.{core_at, messages_at, after_take, HasRoom, HasChannel, IsEmptyLine};
     ghost use Rattle.slice_queues.specs.Line.{has_mail, TakesInvalidations};
 
-    /// How many cores the line has.
+    /// Returns how many cores the line has.
     pub fn cores(&self) -> usize
         ensures { result ≡ length self.now.cores }
     {
@@ -57,8 +58,8 @@ impl<'a> LineQueues<'a> {
         }
     }
 
-    /// The channels in which a message waits, each once: home, the data, the acknowledgements, what is forwarded, and
-    /// the requests, those of each kind in ascending order of their cores.
+    /// Returns the channels in which a message waits, each once: home, the data, the acknowledgements, what is
+    /// forwarded, and the requests, those of each kind in ascending order of their cores.
     pub fn waiting(&self) -> LineWaiting<'a>
         ensures order { result ≡ line_waiting self.now }
         ensures once { HasEachOnce self.now result }
@@ -84,7 +85,7 @@ impl<'a> LineQueues<'a> {
         ChannelsLeft::new(self.cores, self.head.mail.of_class(class), home)
     }
 
-    /// The next of the channels that are left, `None` after the last.
+    /// Returns the next of the channels that are left, `None` after the last.
     pub fn next_left(&self, left: &mut ChannelsLeft) -> Option<Channel>
         requires { AreCores self.now.cores left.old.acks.receivers }
         ensures first { result ≡ slice_get (channels_left left.old self.now.cores) 0 }
@@ -94,7 +95,7 @@ impl<'a> LineQueues<'a> {
         left.next(self.cores)
     }
 
-    /// The request that waits for the directory.
+    /// Returns the request that waits for the directory.
     pub fn front_request(&self, core: CoreId) -> Option<&'a RequestMessage>
         requires { HasChannel self.now (channels.Req core) }
         ensures { option_copied result ≡ (core_at self.now core.0).request }
@@ -103,7 +104,7 @@ impl<'a> LineQueues<'a> {
         queues.request.as_ref()
     }
 
-    /// The oldest forwarded message that waits for the core.
+    /// Returns the oldest forwarded message that waits for the core.
     pub fn front_forwarded(&self, core: CoreId) -> Option<&'a ForwardedMessage>
         requires { HasChannel self.now (channels.Fwd core) }
         ensures { option_copied result ≡ slice_get (core_at self.now core.0).forwarded 0 }
@@ -121,7 +122,7 @@ impl<'a> LineQueues<'a> {
         !queues.forwarded.is_full()
     }
 
-    /// The data that wait for the core.
+    /// Returns the data that wait for the core.
     pub fn front_data(&self, core: CoreId) -> Option<&'a DataMessage>
         requires { HasChannel self.now (channels.Data core) }
         ensures { option_copied result ≡ (core_at self.now core.0).data }
@@ -139,7 +140,7 @@ impl<'a> LineQueues<'a> {
         queues.acks.has(from)
     }
 
-    /// The block that waits for the directory.
+    /// Returns the block that waits for the directory.
     pub fn front_home(&self) -> Option<&'a Block>
         ensures { option_copied result ≡ self.now.home }
     {

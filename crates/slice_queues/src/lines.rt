@@ -9,7 +9,8 @@ use super::core_queues::CoreQueues;
 use super::line_queues::LineQueues;
 use super::mail::{Mail, without_unless};
 use address_map::{Block, CoreId, CoreSet, Local};
-use super::{Channel, ForwardedMessage, Message};
+use super::channel::Channel;
+use super::message::{ForwardedMessage, Message};
 use std::alloc::{AllocError, Global};
 use std::boxed::BoxedSlice;
 use std::marker::Model;
@@ -60,7 +61,7 @@ impl LineHead {
     ghost use Rattle.slice_queues.specs.Runs.{blank_head, opened_first, opened_cores, has_run};
     ghost use Rattle.slice_queues.specs.Count.{one_where, shows_mail};
 
-    /// The head of a line to which nothing was ever sent.
+    /// Returns the head of a line to which nothing was ever sent.
     fn blank() -> Self
         ensures { result ≡ blank_head }
     {
@@ -152,7 +153,7 @@ impl Lines {
     ghost use Rattle.slice_queues.specs.Line.{empty_line, has_mail, messages_at, HasRoom, SendsOnly, TakesOnly};
     ghost use Rattle.slice_queues.specs.Line.{TakesInvalidations, after_invalidating};
 
-    /// Takes the memory for `count` lines of `width` cores.
+    /// Allocates `count` lines of `width` cores.
     pub fn build(alloc: Global, count: usize, width: usize) -> Result<Self, AllocError>
         requires lines { count ≤ 65536 }
         requires cores { width ≤ 64 }
@@ -172,7 +173,7 @@ impl Lines {
         })
     }
 
-    /// The same messages, in memory of their own. Runs that no line has are not touched.
+    /// Returns a copy of the messages, in memory of its own. Runs that no line has are not touched.
     pub fn try_clone(&self, alloc: Global) -> Result<Self, AllocError>
         ensures { IfOk result (λ copy. copy ≡ self.now) }
     {
@@ -201,7 +202,7 @@ impl Lines {
         self.waiting == 0
     }
 
-    /// The channels of one line.
+    /// Returns the channels of one line.
     pub fn line(&self, local: Local) -> LineQueues<'_>
         requires { local.0 < length self.now }
         ensures { result ≡ slice_index_or self.now local.0 (empty_line 0) }

@@ -3,7 +3,7 @@ ghost use Rattle.address_map.specs.CoreSet.{without};
 ghost use Rattle.slice_queues.specs.Mail.{all_marked, marks_of, no_marks};
 
 use address_map::{CoreId, CoreSet};
-use super::Class;
+use super::channel::Class;
 
 /// The cores of a line for which messages wait, by kind: of requests, those that sent them.
 #[derive(Clone, Copy)]
@@ -26,7 +26,7 @@ impl Mail {
         }
     }
 
-    /// What waits in the channels of this class.
+    /// Returns what waits in the channels of this class.
     pub fn of_class(self, class: Class) -> Self
         ensures { result ≡ marks_of class self }
     {
@@ -53,7 +53,7 @@ impl Mail {
         }
     }
 
-    /// The cores with any message.
+    /// Returns the cores with any message.
     pub fn cores(&self) -> CoreSet
         ensures { result ≡ all_marked self.now }
     {
@@ -66,7 +66,7 @@ impl Mail {
     }
 }
 
-/// The set without the core, unless something still waits there.
+/// Returns the set without the core, unless something still waits there.
 pub fn without_unless(cores: CoreSet, core: CoreId, waits: bool) -> CoreSet
     ensures { result ≡ (if waits then cores else without cores core.0) }
 {

@@ -3,7 +3,7 @@ ghost use Rattle.std.specs.Prelude.{◌≡◌, ◌≤◌, ◌-◌, ◌++◌, len
 use super::lines::Lines;
 use super::waiting::LineWaiting;
 use address_map::{LineAddr, Local};
-use super::Pick;
+use super::channel::Pick;
 use std::marker::Model;
 
 /// The picks with a message of a run of lines, line by line.
@@ -36,7 +36,7 @@ impl<'a> Model for LinesWaiting<'a> {
 impl<'a> LinesWaiting<'a> {
     ghost use Rattle.slice_queues.specs.Waiting.{lines_waiting, IsAddressedFrom};
 
-    /// The picks of the lines of a slice from this place on, up to the one before `end`.
+    /// Returns the picks of the lines of a slice from this place on, up to the one before `end`.
     pub fn new(lines: &'a Lines, place: usize, end: usize, slice: u8, slices: u8) -> Self
         requires order { place ≤ end }
         requires there { end ≤ length lines.now }
@@ -54,7 +54,7 @@ impl<'a> LinesWaiting<'a> {
         }
     }
 
-    /// The next pick, `None` after the last.
+    /// Returns the next pick, `None` after the last.
     pub fn next(&mut self) -> Option<Pick>
         ensures first { result ≡ slice_get self.old 0 }
         ensures rest { self.new ≡ drop 1 self.old }
@@ -100,7 +100,7 @@ impl<'a> Picks<'a> {
         }
     }
 
-    /// The next pick, `None` after the last.
+    /// Returns the next pick, `None` after the last.
     pub fn next(&mut self) -> Option<Pick>
         ensures first { result ≡ slice_get self.old 0 }
         ensures rest { self.new ≡ drop 1 self.old }

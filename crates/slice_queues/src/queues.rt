@@ -8,7 +8,8 @@ use super::lines::Lines;
 use super::picks::{LinesWaiting, Picks};
 use super::ring::LineRing;
 use address_map::{CoreId, CoreSet, LineAddr, Local, Locator};
-use super::{Channel, Message, Pick};
+use super::channel::{Channel, Pick};
+use super::message::Message;
 use std::alloc::{AllocError, Global};
 use std::marker::Model;
 
@@ -44,7 +45,7 @@ impl Queues {
     ghost use Rattle.slice_queues.specs.Ring.{has_mail_at, with_listed, IsRing};
     ghost use Rattle.slice_queues.specs.Lending.{with_lent};
 
-    /// Takes all the memory that the slice will ever need, for the slice's lines of `cores` cores each.
+    /// Allocates all the memory that the slice will ever need, for the slice's lines of `cores` cores each.
     pub fn build(alloc: Global, cores: usize, locator: Locator) -> Result<Self, AllocError>
         requires { cores ≤ 64 }
         ensures { IfOk result
@@ -62,7 +63,7 @@ impl Queues {
         })
     }
 
-    /// The same channels and ring, in memory of their own.
+    /// Returns a copy of the channels and the ring, in memory of its own.
     pub fn try_clone(&self, alloc: Global) -> Result<Self, AllocError>
         ensures { IfOk result (λ copy. copy ≡ self.now) }
     {
@@ -75,14 +76,14 @@ impl Queues {
         })
     }
 
-    /// How many lines the slice has.
+    /// Returns how many lines the slice has.
     pub fn lines(&self) -> usize
         ensures { result ≡ length self.now.channels.lines }
     {
         self.lines.len()
     }
 
-    /// The channels of one line.
+    /// Returns the channels of one line.
     pub fn line(&self, local: Local) -> LineQueues<'_>
         requires { local.0 < length self.now.channels.lines }
         ensures { result ≡ at_local self.now.channels local.0 }
@@ -90,7 +91,7 @@ impl Queues {
         self.lines.line(local)
     }
 
-    /// The line comes into the ring, at the back, if it isn't there.
+    /// Adds the line to the ring, at the back, if it isn't there.
     pub fn list(&mut self, local: Local)
         requires { local.0 < length self.old.channels.lines }
         ensures { self.new ≡ record self.old { ring = with_listed self.old.ring local.0 } }
@@ -138,7 +139,7 @@ impl Queues {
         self.lines.invalidate(local, cores, requester);
     }
 
-    /// How many lines the ring has.
+    /// Returns how many lines the ring has.
     pub fn ring_len(&self) -> usize
         ensures len { result ≡ length self.now.ring }
         ensures ring { IsRing self.now }
@@ -147,7 +148,7 @@ impl Queues {
         self.ring.len()
     }
 
-    /// The line at a place of the ring, the front at 0.
+    /// Returns the line at a place of the ring, the front at 0.
     pub fn ring_at(&self, index: usize) -> Local
         requires { index < length self.now.ring }
         ensures line { result.0 ≡ slice_index self.now.ring index }
@@ -156,7 +157,7 @@ impl Queues {
         self.ring.at(index)
     }
 
-    /// Of the first `count` lines of the ring those with a message go to the back, and the others leave it.
+    /// Moves those of the first `count` lines of the ring that have a message to the back, and the others out of it.
     pub fn rotate(&mut self, count: usize)
         requires { count ≤ length self.old.ring }
         ensures ring { self.new.ring
@@ -194,7 +195,7 @@ impl Queues {
         self.locator.local_of(line).is_some()
     }
 
-    /// The place of a line that is there.
+    /// Returns the place of a line that is there.
     fn place_of(&self, line: LineAddr) -> Local
         requires { HasLine self.now.channels line }
         ensures { result.0 ≡ local_of self.now.channels line }
@@ -215,7 +216,7 @@ impl Queues {
                 .has_room(pick.channel())
     }
 
-    /// The oldest message at the pick. `None` too where the pick names a line or a core that isn't there.
+    /// Returns the oldest message at the pick. `None` too where the pick names a line or a core that isn't there.
     pub fn front(&self, pick: Pick) -> Option<Message>
         ensures { result ≡ slice_get (messages_in self.now.channels pick) 0 }
     {
@@ -284,8 +285,8 @@ impl Queues {
             LinesWaiting::new(&self.lines, 0, place, slice, slices),
         )
     }
-    /// The picks with a message, each once and no other, where the lines are in the memory as the locator says: from
-    /// the first line to the last, within a line kind by kind. It takes no memory.
+    /// Returns the picks with a message, each once and no other, where the lines are in the memory as the locator says:
+    /// from the first line to the last, within a line kind by kind. It allocates nothing.
     pub fn picks_of(&self, own: Locator) -> Picks<'_>
         requires { own.lines ≡ length self.now.channels.lines }
         ensures order { result ≡ lines_waiting own.slice own.slices 0 self.now.channels.lines }

@@ -39,7 +39,7 @@ impl LineRing {
         })
     }
 
-    /// The same round, in memory of its own.
+    /// Returns a copy of the round, in memory of its own.
     pub fn try_clone(&self, alloc: Global) -> Result<Self, AllocError>
         ensures { IfOk result (λ copy. copy ≡ self.now) }
     {
@@ -83,7 +83,7 @@ impl LineRing {
         }
     }
 
-    /// The first line goes to the end where it stays, or else leaves the round.
+    /// Moves the first line to the end if it stays, or else out of the round.
     // A round of one line that stays is the same after its turn.
     pub fn turn(&mut self, stays: bool)
         requires { 0 < length self.old.order }

@@ -5,7 +5,7 @@ ghost use Rattle.slice_queues.specs.Waiting.{AreCores, acks_from, channels_left,
 use super::core_queues::CoreQueues;
 use super::mail::Mail;
 use address_map::{CoreId, CoreSet};
-use super::Channel;
+use super::channel::Channel;
 use std::marker::Model;
 
 /// The acknowledgements of one line that are left, by their receivers, and those for one by their senders.
@@ -17,7 +17,7 @@ pub(crate) struct AcksLeft {
 }
 
 impl AcksLeft {
-    /// The next acknowledgement that waits for one of these cores, `None` after the last.
+    /// Returns the next acknowledgement that waits for one of these cores, `None` after the last.
     fn next(&mut self, cores: &[CoreQueues]) -> Option<Channel>
         requires { AreCores cores.now self.old.receivers }
         ensures first { result ≡ slice_get (acks_from self.old cores.now) 0 }
@@ -67,7 +67,7 @@ impl ChannelsLeft {
         }
     }
 
-    /// The next channel of the line with these cores, `None` after the last.
+    /// Returns the next channel of the line with these cores, `None` after the last.
     pub(crate) fn next(&mut self, cores: &[CoreQueues]) -> Option<Channel>
         requires { AreCores cores.now self.old.acks.receivers }
         ensures first { result ≡ slice_get (channels_left self.old cores.now) 0 }
@@ -129,7 +129,7 @@ impl<'a> LineWaiting<'a> {
         LineWaiting::new(&[], left)
     }
 
-    /// The next channel, `None` after the last.
+    /// Returns the next channel, `None` after the last.
     pub fn next(&mut self) -> Option<Channel>
         ensures first { result ≡ slice_get self.old 0 }
         ensures rest { self.new ≡ drop 1 self.old }

@@ -18,7 +18,7 @@ use Rattle.slice_text.specs.Shown.{is_idle, rests, text_of_copy, text_of_cores_o
 use Rattle.slice_text.specs.Shown.{text_of_targets}
 use Rattle.target_list.specs.declared.target.Target.{Target}
 
--- a copy that isn't there, or of which nothing is left, says nothing
+-- a copy that doesn't exist, or is gone, has no text
 pub no_copy : (core : CoreId) (line : LineAddr) (held : Option CacheCopy) (targets : List Target) → held ≡ None
     → [] ≡ text_of_copy core line held targets
 no_copy core line held targets none = rw none refl
@@ -29,7 +29,7 @@ pub whole_copy : (core : CoreId) (line : LineAddr) (held : Option CacheCopy) (co
     → text_of_held core line copy ++ text_of_targets core line targets ≡ text_of_copy core line held targets
 whole_copy core line held copy targets is not = rw is (rw not refl)
 
--- what is shown of a line is what the slice has of it
+-- what is shown of a line is the slice's view of it
 shown_of : (v : View) (local : Local) (view : LineView) → ShowsLine v (Some local) (Some view)
     → (entry_in view ≡ entry_at v local) × (view.copies.items ≡ map (λ cache. state_of cache local) v.caches)
 shown_of v local view (given, is, dir, owner, sharers, home, copies) =
@@ -46,13 +46,13 @@ rests_as v local view b shows is =
     ∙ ap (λ (e : DirEntry). is_idle e.state && list_all is_gone view.copies.items) shown.0
     ∙ ap (λ (copies : List CopyState). is_idle (entry_at v local).state && list_all is_gone copies) shown.1)
 
--- a line of another slice says nothing, nor does one at rest
+-- a line of another slice has no text, nor does one at rest
 pub no_line : (v : View) (line : LineAddr) (local : Option Local) (shown : Option LineView) → ShowsLine v local shown
     → shown ≡ None → [] ≡ text_of_place v line local
 no_line v line None shown shows none = refl
 no_line v line (Some local) shown (given, is, dir, owner, sharers, home, copies) none = absurd (cc)
 
--- any other says what is shown of it, and then each core's copy
+-- the text of any other is what is shown of it, and then each core's copy
 pub shown_line : (v : View) (line : LineAddr) (local : Option Local) (view : LineView) (b : Bool)
     → ShowsLine v local (Some view)
     → b ≡ (is_idle view.dir && list_all is_gone view.copies.items) → b ≡ false

@@ -6,7 +6,7 @@ use Rattle.std.specs.List.{flat_map}
 abbrev pub further_cores : List ℕ → List ℕ
 further_cores cores = flat_map (λ core. codes "," ++ decimal core) cores
 
--- these cores with commas between them, or a dash where there is none
+-- these cores with commas between them, or a dash if there is none
 abbrev pub text_of_cores : List ℕ → List ℕ
 text_of_cores [] = codes "-"
 text_of_cores (core ∷ cores) = decimal core ++ further_cores cores

@@ -12,7 +12,7 @@ use Rattle.slice_answer.specs.declared.answer.Delivery.{Delivery}
 use Rattle.slice_core_spec.specs.declared.transition.Transition.TheVariants as transitions
 use Rattle.slice_core_spec.specs.declared.transition.Transition.{Transition}
 
--- a message that is moved: the state that follows, and what is done besides
+-- a message that is moved: the state that follows, and what else is done
 abbrev pub text_of_transition : ℕ → CoreId → Done → Transition → List ℕ
 text_of_transition slice core done (transitions.Directory step) =
     text_of_entry step.state step.owner step.sharers ++ text_of_dir_sends core step.sends ++ text_of_home step.writes_home

@@ -69,7 +69,7 @@ text_of_dir_sends core dir_sends.PutAck = codes "; sends Put-Ack to core " ++ de
 abbrev pub text_of_block : ℕ → List ℕ
 text_of_block slice = codes ", Data home to dir " ++ decimal slice
 
--- what a row of the cache's table sends for a forwarded message, which asks for nothing
+-- what a row of the cache's table sends for a forwarded message, which makes no request
 abbrev pub text_of_cache_sends : ℕ → CoreId → CacheSends → List ℕ
 text_of_cache_sends slice requester cache_sends.DataToRequester =
     codes "; sends Data(0) to core " ++ decimal requester.0
@@ -91,7 +91,7 @@ text_of_numbers first end =
     else codes "; performs numbers " ++ decimal first ++ codes " to " ++ decimal (end - 1))
     else codes ""
 
--- the message that the core sent to the directory as its copy went on, and the state of the copy then
+-- the message that the core sent to the directory when its copy went on, and the state of the copy then
 abbrev pub text_of_asked : ℕ → Option Message → CopyState → List ℕ
 text_of_asked slice None state = codes ""
 text_of_asked slice (Some message) state =

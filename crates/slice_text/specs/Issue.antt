@@ -25,7 +25,7 @@ use Rattle.slice_text.specs.declared.step.case.Event.TheVariants as events
 use Rattle.slice_text.specs.declared.step.issue.Eviction.{Eviction}
 use Rattle.slice_text.specs.declared.step.issue.Issue.{Issue}
 
--- the event of the table that an access is
+-- the event of the table for an access
 abbrev pub event_of : Op → Event
 event_of ops.Load = events.Load
 event_of op = events.Write
@@ -36,11 +36,11 @@ abbrev pub text_of_ask : Ask → List ℕ
 text_of_ask asks.GetS = codes "GetS"
 text_of_ask asks.GetM = codes "GetM"
 
--- a write to an exclusive copy, of which nobody is told
+-- a write to an exclusive copy, for which no message is sent
 abbrev pub text_of_silent : Bool → List ℕ
 text_of_silent silent = if silent then codes "; silent" else codes ""
 
--- what is short
+-- what an access has to wait for
 abbrev pub text_of_shortage : Stall → List ℕ
 text_of_shortage stalls.NoRegister = codes "no miss register is free"
 text_of_shortage stalls.NoTarget = codes "no target of its miss register is free"

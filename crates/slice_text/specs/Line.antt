@@ -1,4 +1,4 @@
--- What a slice has of a line, as one line of text.
+-- A slice's view of a line, as one line of text.
 use Rattle.std.specs.Prelude.{ℕ, List, ◌++◌, codes, decimal, Option, Some, None}
 use Rattle.std.specs.List.{flat_map}
 use Rattle.address_map.specs.CoreSet.{members}
@@ -16,7 +16,7 @@ use Rattle.slice_text.specs.Cores.{text_of_cores}
 abbrev pub text_of_entry : LineAddr → DirState → List ℕ
 text_of_entry line dir = codes "line " ++ decimal line.0 ++ codes " dir " ++ name_of_dir dir
 
--- who owns it, or a dash where nobody does
+-- its owner, or a dash if there is none
 abbrev pub text_of_owner : Option CoreId → List ℕ
 text_of_owner (Some owner) = codes " owner " ++ decimal owner.0
 text_of_owner None = codes " owner -"

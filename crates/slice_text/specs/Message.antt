@@ -1,4 +1,4 @@
--- What messages are called.
+-- The names of messages.
 use Rattle.std.specs.Prelude.{ℕ, List, ◌++◌, codes, decimal}
 use Rattle.slice_queues.specs.declared.message.DataMessage.TheVariants as data_messages
 use Rattle.slice_queues.specs.declared.message.ForwardedMessage.TheVariants as forwarded_messages

@@ -5,7 +5,7 @@ use Rattle.address_map.specs.declared.request.Op.{Op}
 use Rattle.address_map.specs.declared.request.Op.TheVariants as ops
 use Rattle.slice_log.specs.declared.entry.Entry.{Entry}
 
--- what it asked for, in a script's words
+-- the access as a script writes it
 abbrev pub text_of_op : WordAddr → Op → List ℕ
 text_of_op word ops.Load = codes "load " ++ decimal word.0
 text_of_op word (ops.Store new) = codes "store " ++ decimal word.0 ++ codes " " ++ decimal new

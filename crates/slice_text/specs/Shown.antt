@@ -1,4 +1,4 @@
--- All that a slice has and that isn't at rest, as text: what the command `show` prints.
+-- All that isn't at rest in a slice, as text: what the command `show` prints.
 use Rattle.std.specs.Prelude.{◌≡◌, ℕ, ◌+◌, ◌*◌, ◌==◌, ◌&&◌, Bool, true, false, if◌then◌else◌, List, [], ◌∷◌, ◌++◌}
 use Rattle.std.specs.Prelude.{codes, decimal, length, map, slice_get, Option, Some, None, All}
 use Rattle.std.specs.List.{flat_map, list_all, range_with_len}
@@ -28,7 +28,7 @@ use Rattle.target_list.specs.declared.target.Target.{Target}
 
 -- ---- a core's copy of a line, and what waits for it
 
--- of how many acknowledgements that its data named how many have come, where there are any
+-- how many acknowledgements have come, of those that its data named, if there are any
 abbrev pub text_of_acks : CacheCopy → List ℕ
 text_of_acks copy =
     if (copy.counted == 0) && (copy.wants == 0) then []
@@ -49,7 +49,7 @@ text_of_held core line copy =
 abbrev pub word_in : LineAddr → Offset → WordAddr
 word_in line offset = record { 0 = 8 * line.0 + offset.0 }
 
--- an access that waits: its tag, and what it asks for
+-- an access that waits: its tag, and its request
 abbrev pub text_of_access : CoreId → ℕ → WordAddr → Op → List ℕ
 text_of_access core tag word op =
     codes "core " ++ decimal core.0 ++ codes " tag " ++ decimal tag ++ codes " awaits " ++ text_of_op word op
@@ -65,7 +65,7 @@ text_of_target core line target =
 abbrev pub text_of_targets : CoreId → LineAddr → List Target → List ℕ
 text_of_targets core line targets = flat_map (text_of_target core line) targets
 
--- a copy that is somewhere, with what waits for it
+-- a copy that exists, with what waits for it
 abbrev pub text_of_copy : CoreId → LineAddr → Option CacheCopy → List Target → List ℕ
 text_of_copy core line None targets = []
 text_of_copy core line (Some copy) targets =
@@ -82,7 +82,7 @@ abbrev pub is_idle : DirState → Bool
 is_idle dir_states.I = true
 is_idle _ = false
 
--- a line is at rest where no core has a copy of it, and the directory waits for none
+-- a line is at rest if no core has a copy of it, and the directory waits for none
 abbrev pub rests : View → Local → Bool
 rests v local = is_idle (entry_at v local).state && list_all is_gone (map (λ cache. state_of cache local) v.caches)
 
@@ -91,20 +91,20 @@ abbrev pub text_of_cores_of : View → LineAddr → List ℕ
 text_of_cores_of v line =
     flat_map (λ core. text_of_core v line (record { 0 = core })) (range_with_len 0 (length v.caches))
 
--- a line that isn't at rest: what the directory has of it, and then each core's copy
+-- a line that isn't at rest: the directory's entry, and then each core's copy
 abbrev pub text_of_place : View → LineAddr → Option Local → List ℕ
 text_of_place v line None = []
 text_of_place v line (Some local) =
     if rests v local then []
     else text_of_state line (entry_at v local) (map (λ cache. state_of cache local) v.caches) ++ text_of_cores_of v line
 
--- the same of a line of the memory; of one of another slice nothing
+-- the same for a line of the memory; nothing for one of another slice
 abbrev pub text_at_line : View → LineAddr → List ℕ
 text_at_line v line = text_of_place v line (local_at v.lines line.0)
 
 -- ---- a slice
 
--- a reply that isn't handed out: its number in the log
+-- a reply that wasn't delivered to its core: its number in the log
 abbrev pub text_of_reply : CoreId → ℕ → TagState → List ℕ
 text_of_reply core tag (tag_states.Performed number) =
     codes "core " ++ decimal core.0 ++ codes " tag " ++ decimal tag ++ codes " entry " ++ decimal number ++ codes "\n"
@@ -136,8 +136,8 @@ text_of_lines v lines = flat_map (λ line. text_at_line v (record { 0 = line }))
 abbrev pub text_of_number : ℕ → List ℕ
 text_of_number number = codes "slice " ++ decimal number ++ codes " ring"
 
--- a slice of this number, in a machine of so many cores and lines: its lines that aren't at rest, the replies that
--- aren't handed out, and its ring
+-- a slice of this number, in a machine with these numbers of cores and lines: its lines that aren't at rest, the
+-- replies that weren't delivered to their cores, and its ring
 abbrev pub text_of_slice : ℕ → ℕ → ℕ → PartsView → List ℕ
 text_of_slice cores lines number p =
     text_of_lines p.view lines ++ (text_of_replies p.view cores
@@ -153,6 +153,6 @@ text_of_slices cores lines number (p ∷ more) =
 abbrev pub text_of_machine : Config → List PartsView → List ℕ
 text_of_machine config slices = text_of_slices config.cores config.lines 0 slices
 
--- each of the slices has so many cores
+-- each of the slices has this number of cores
 abbrev pub HaveCores : ℕ → List PartsView → Type 0
 HaveCores cores slices = All (λ p. length p.view.caches ≡ cores) slices

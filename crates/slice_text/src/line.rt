@@ -10,7 +10,7 @@ use slice_core::LineView;
 use std::fmt;
 use std::fmt::Write;
 
-/// Writes what a slice has of a line, as one line of text.
+/// Writes a slice's view of a line, as one line of text.
 pub fn write_line<W: Write>(line: LineAddr, view: &LineView, out: &mut W) -> fmt::Result
     ensures { OnOk result (WritesInCalls W.write_str_gives out.old (text_of_line line view.now) out.new) }
 {

@@ -1,4 +1,4 @@
-//! The replies that aren't handed out.
+//! The replies that weren't delivered to their cores.
 ghost use Rattle.std.specs.Prelude.{◌≡◌, ◌<◌, ◌≤◌, OnOk, length};
 ghost use Rattle.std.specs.Fmt.{WritesInCalls};
 ghost use Rattle.slice_text.specs.Shown.{text_of_replies, text_of_replies_to, text_of_reply, text_under};
@@ -9,7 +9,7 @@ use slice_core::{SliceState, TagState};
 use std::fmt;
 use std::fmt::Write;
 
-/// How many tags a core has.
+/// The number of tags of a core.
 const TAGS: u8 = 64;
 
 /// Writes the replies to each core.

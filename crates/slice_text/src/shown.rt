@@ -1,4 +1,4 @@
-//! All that slices have and that isn't at rest.
+//! All that isn't at rest in slices.
 ghost use Rattle.std.specs.Prelude.{◌≡◌, ◌<◌, ◌≤◌, ◌&&◌, OnOk, length};
 ghost use Rattle.std.specs.List.{list_all};
 ghost use Rattle.std.specs.Fmt.{WritesInCalls};
@@ -16,7 +16,7 @@ use slice_core::{CopyState, DirState, LineView, SliceState};
 use std::fmt;
 use std::fmt::Write;
 
-/// Writes what the slices of a machine have and that isn't at rest, one slice after another.
+/// Writes all that isn't at rest in the slices of a machine, one slice after another.
 pub fn write_slices<F: MissFile, W: Write>(
     config: &Checked,
     slices: &[SliceState<F>],

@@ -16,7 +16,7 @@ repeat-space : (n : ℕ) → repeat {A = ℕ} n (32 ∷ []) ≡ replicate n 32
 repeat-space zero = refl
 repeat-space (suc n) = ap (λ rest. 32 ∷ rest) (repeat-space n)
 
--- a number's padding stands before it, and none after it
+-- a number's padding comes before it, and none after it
 padded_front : (pad : ℕ) (text : List ℕ) → let space : List ℕ = 32 ∷ [] in
     (repeat pad space ++ [] ++ [] ++ []) ++ (text ++ repeat (pad - pad) space) ≡ replicate pad 32 ++ text
 padded_front pad text =

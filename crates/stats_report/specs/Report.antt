@@ -17,11 +17,11 @@ views_of stats = map (λ slice. slice.now) stats
 abbrev pub HasCore : ℕ → StatsView → Type 0
 HasCore core slice = core < length slice.cores
 
--- the slice counts for so many cores
+-- the slice counts for `cores` cores
 abbrev pub HasCores : ℕ → StatsView → Type 0
 HasCores cores slice = length slice.cores ≡ cores
 
--- the slice is of the same machine as far as the report shows it: as many cores, and the same setting
+-- the slice is of the same machine as far as the report shows it: the same number of cores, and the same setting
 pub record IsLike (first other : StatsView) : Type 0 where
   pub cores : HasCores (length first.cores) other
   pub exclusive : other.exclusive ≡ first.exclusive
@@ -67,7 +67,7 @@ sum_of one other = record {
   home = capped_sum (one.home + other.home);
 }
 
--- a text to the right in 10 places; one that is longer stands whole
+-- a text to the right in 10 places; one that is longer is kept whole
 abbrev pub right_in_10 : List ℕ → List ℕ
 right_in_10 text = replicate (10 - length text) 32 ++ text
 

@@ -5,7 +5,7 @@ use Rattle.stats_report.specs.declared.write.Cut.{Cut}
 use Rattle.stats_report.specs.declared.report.ReportError.{ReportError}
 use Rattle.stats_report.specs.declared.report.ReportError.TheVariants as report_errors
 
--- the first bytes of the text were written, as many as were taken, and not all
+-- the first `cut.taken` bytes of the text were written, and not all
 pub record AppendsFirst (old new : Option (List ℕ)) (text : List ℕ) (cut : Cut) : Type 0 where
   pub first : Appends old new (take cut.taken text)
   pub short : cut.taken < length text

@@ -6,7 +6,7 @@ use std::error::Error;
 use std::fmt;
 use std::io::Write;
 
-/// A text that wasn't written whole: so many of its bytes were taken.
+/// A text that wasn't written whole: only its first `taken` bytes were.
 #[derive(Clone, Copy, Debug, PartialEq, Eq)]
 pub struct Cut {
     pub taken: usize,

@@ -30,7 +30,7 @@ abbrev pub BeginsWithWrite : List Target → Type 0
 BeginsWithWrite [] = Unit {0}
 BeginsWithWrite (first ∷ _) = is_load first ≡ false
 
--- As many loads as there are in front were taken, and no other target: none is lost, and all stay in order.
+-- The loads in front were taken, and no other target: none is lost, and all stay in order.
 pub record TakesLoads (old taken left : List Target) : Type 0 where
   pub whole : old ≡ taken ++ left
   pub loads : All (λ target. IsTrue (is_load target)) taken

@@ -7,7 +7,7 @@
 //! of them, and [`TargetList::take_loads`] the loads in front of the first write, which is what data that may only be
 //! read can answer.
 //!
-//! No call takes memory: the targets lie in the value, and what is taken is handed out by value. The others stay where
+//! No call allocates: the targets are in the value, and what is taken is returned by value. The others stay where
 //! they are; once the last of 64 fields was used they move to the front, to make room for a push.
 #![tactic(auto)]
 

@@ -129,7 +129,7 @@ impl TargetList {
         taken
     }
 
-    /// Goes past the first targets, and begins anew where none is left.
+    /// Skips the first `count` targets, and starts at the front again where none is left.
     fn pass(&mut self, count: usize)
         requires { count ≤ length self.old }
         ensures { self.new ≡ drop count self.old }
@@ -143,7 +143,7 @@ impl TargetList {
     }
 }
 
-/// The same targets. It takes no memory.
+/// Returns a copy of the targets. It allocates nothing.
 impl Clone for TargetList {
     ghost use Rattle.std.specs.Prelude.{◌≡◌};
 

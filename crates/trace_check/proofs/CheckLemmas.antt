@@ -27,7 +27,7 @@ use Rattle.trace_check.specs.SoFar.{IsLastNamed, IsSoFar, MayBegin, Stands}
 use Rattle.trace_check.specs.Trace.{AreLines, body_of, IsReading}
 use Rattle.trace_check.proofs.SeqLemmas.{slice_get-append, slice_get-last}
 
--- the first entry at fault stays so, whatever comes after it
+-- the first invalid entry stays so, whatever comes after it
 still_illegal : (initial : ℕ → ℕ) (entries : List Entry) (e : Entry) (k : ℕ) (reason : Reason)
     → IsVerdict initial entries (verdicts.Illegal k reason)
     → IsVerdict initial (entries ++ e ∷ []) (verdicts.Illegal k reason)
@@ -39,7 +39,7 @@ still_illegal initial entries e k reason h =
     rw (take-append-le k entries (e ∷ []) (omega arith))
     (h.0, h.1, (x, slice_get-append entries (e ∷ []) k x at, h.2.2))
 
--- an entry at fault after a log
+-- an invalid entry after a log
 first_illegal : (judge : Judge) (initial : ℕ → ℕ) (entries : List Entry) (e : Entry) (k : ℕ) (reason : Reason)
     → k ≡ length entries
     → Knows judge initial entries → IsWrong initial entries e reason
@@ -113,7 +113,7 @@ unfolding IsSoFar IsVerdict
 so_far_named judge now was is None named h = named h
 so_far_named judge now was is (Some f) named h = let at : slice_get [] f.0 ≡ Some h.2.0 = h.2.1 in cc
 
--- one more word is given a value to begin with
+-- one more word is given an initial value
 pub stands-begin : (was now : TraceJudge) (init : List (WordAddr × ℕ)) (word : WordAddr) (v : ℕ) → MayBegin was word
     → now.last ≡ Some word
     → now.entries ≡ was.entries → now.fault ≡ was.fault

@@ -1,4 +1,4 @@
--- A log with an entry at fault isn't both legal and ordered, so no log has two verdicts.
+-- A log with an invalid entry isn't both legal and ordered, so no log has two verdicts.
 use Rattle.std.proofs.Common.{◌≡◌, ℕ, ◌<◌, ◌≤◌, List, length, take, get_or, Some, refl, sym, ap, ◌∙◌, arith, subst, inl}
 use Rattle.std.proofs.Common.{inr}
 use Rattle.std.specs.Prelude.{slice_get}
@@ -59,7 +59,7 @@ one_reason initial log e reasons.Since reasons.Reply w v = absurd (v w.0)
 one_reason initial log e reasons.Since reasons.Order w v = absurd (v.1 w.1)
 one_reason initial log e reasons.Since reasons.Since w v = refl
 
--- before an entry at fault no other is
+-- no entry before the first invalid one is invalid
 none_earlier : (initial : ℕ → ℕ) (entries : List Entry) (k l : ℕ) (d e : Entry) (r : Reason) → k < l
     → slice_get entries k ≡ Some d
     → slice_get entries l ≡ Some e → IsWrong initial (take k entries) d r → IsLegal initial (take l entries)

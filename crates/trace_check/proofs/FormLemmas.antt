@@ -39,7 +39,7 @@ no_compare_exchange ws (ops.Add delta) word other form = tt
 no_compare_exchange [] (ops.Cas expect new) word other form = form
 no_compare_exchange (w ∷ ws) (ops.Cas expect new) word other form = other form.0
 
--- an entry's words write it where each writes its part
+-- an entry's words write it if each writes its part
 pub entry_written : (all : List (List ℕ)) (core seq tag : List ℕ) (access : List (List ℕ)) (reply since : List ℕ)
     (e : Entry)
     → all ≡ core ∷ seq ∷ tag ∷ (access ++ reply ∷ since ∷ []) → IsNumber core × (e.core.0 ≡ digits_value 10 core)
@@ -61,7 +61,7 @@ word_for_each ws ps h = elim (cases_eq (length ws) (length ps)) [
   | inr other ↦ absurd (wrong_count (λ w. w) ws ps other (rw map-id h))
 ]
 
--- words that write parts after parts write each of them, where there is a word for each of the first
+-- words that write parts after parts write each of them, if there is a word for each of the first
 pub Writes-split : (ws vs : List (List ℕ)) (ps qs : List Part) → length ws ≡ length ps → Writes (ws ++ vs) (ps ++ qs)
     → Writes ws ps × Writes vs qs
 Writes-split [] vs [] qs same h = (tt, h)
@@ -88,7 +88,7 @@ access_word ws (ops.Store value) word h = second_number ws (codes "store") word 
 access_word ws (ops.Add delta) word h = second_number ws (codes "add") word (num delta ∷ []) h
 access_word ws (ops.Cas expect new) word h = second_number ws (codes "cas") word (num expect ∷ num new ∷ []) h
 
--- words write accesses of one word alone
+-- words write accesses of only one word
 pub one_word : (ws : List (List ℕ)) (a b : Op) (v w : ℕ) → Writes ws (parts_of_op a v) → Writes ws (parts_of_op b w)
     → v ≡ w
 one_word ws a b v w h k = sym (access_word ws a v h) ∙ access_word ws b w k

@@ -26,7 +26,7 @@ pub says_form : (version : Version) (ws : List (List ℕ)) (line : TraceLine) �
     → HasFormOf version ws line
 says_form version ws line s = (HasForm-Writes (line_with_since version ws) (parts_of_line line) s.0, s.1)
 
--- ---- a value to begin with
+-- ---- an initial value
 
 abbrev begins : ℕ × ℕ → TraceLine
 begins p = trace_lines.Init (record { 0 = p.0 }) p.1
@@ -59,7 +59,7 @@ HasForm-append (w ∷ ws) vs [] qs h k = absurd h
 HasForm-append (w ∷ ws) vs (key text ∷ ps) qs h k = (h.0, HasForm-append ws vs ps qs h.1 k)
 HasForm-append (w ∷ ws) vs (num n ∷ ps) qs h k = HasForm-append ws vs ps qs h k
 
--- .. and where there is a word for each of the first, each has its own
+-- .. and if there is a word for each of the first, each has its own
 HasForm-first : (ws vs : List (List ℕ)) (ps qs : List Part) → length ws ≡ length ps → HasForm (ws ++ vs) (ps ++ qs)
     → HasForm ws ps
 HasForm-first [] vs [] qs same h = tt
@@ -80,7 +80,7 @@ abbrev pub AreParts : Version → List (List ℕ) → List ℕ → List ℕ → 
 AreParts version all core seq tag access reply since =
     with_since version all ≡ core ∷ seq ∷ tag ∷ (access ++ reply ∷ since ∷ [])
 
--- .. have the form of an entry where those of the access have its form
+-- .. have the form of an entry if those of the access have its form
 access_form : (core seq tag : List ℕ) (access : List (List ℕ)) (reply since : List ℕ) (e : Entry)
     → HasForm (core ∷ seq ∷ tag ∷ (access ++ reply ∷ since ∷ []))
     (num e.core.0 ∷ num e.seq ∷ num e.tag ∷ (parts_of_op e.op e.word.0 ++ num e.reply ∷ num e.since ∷ []))
@@ -127,7 +127,7 @@ short_fault version all few (trace_lines.Entry e) f =
     let two : 2 ≤ length op = access_count e.op e.word.0 in
     omega (arith, simp length-append at whole)
 
--- an access of which the version has no word, or that is none
+-- an access that the version can't express, or that is none
 pub no_form_fault : (version : Version) (all : List (List ℕ)) (core seq tag : List ℕ) (access : List (List ℕ))
     (reply since : List ℕ) → AreParts version all core seq tag access reply since
     → ((op : Op) (word : ℕ) → HasForm access (parts_of_op op word) → ¬ IsOfVersion version op)
@@ -167,7 +167,7 @@ number_fault version all core seq tag access reply since op word fault parts for
     subst (IsFaultOfLine version (codes "entry" ∷ all)) (sym is)
     ((trace_lines.Entry (entry_of op word), formed), unsaid)
 
--- what is wrong with the access is wrong with the entry, where the version has a word for it
+-- what is wrong with the access is wrong with the entry, if the version can express it
 pub access_fault : (version : Version) (all : List (List ℕ)) (core seq tag : List ℕ) (access : List (List ℕ))
     (reply since : List ℕ) (fault : LineFault) → AreParts version all core seq tag access reply since
     → ((op : Op) (word : ℕ) → HasForm access (parts_of_op op word) → IsOfVersion version op)

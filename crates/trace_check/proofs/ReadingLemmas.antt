@@ -1,4 +1,4 @@
--- Words write one line at most, so a text is one trace at most, and is judged to one verdict.
+-- Words write at most one line, so a text is at most one trace, and has one verdict.
 use Rattle.std.proofs.Common.{◌≡◌, ℕ, List, [], ◌∷◌, ◌++◌, get_or, map, refl, sym, ap, subst, ◌∙◌}
 use Rattle.std.specs.Prelude.{codes}
 use Rattle.address_map.specs.declared.address.CoreId.{CoreId}
@@ -69,7 +69,7 @@ first_word : (ws : List (List ℕ)) (name : List ℕ) (ps : List Part) → Write
 first_word [] name ps h = absurd h
 first_word (w ∷ ws) name ps h = h.0
 
--- how an access is called
+-- the name of an access
 abbrev name_of_op : Op → List ℕ
 name_of_op ops.Load = codes "load"
 name_of_op (ops.Store value) = codes "store"
@@ -84,7 +84,7 @@ first_of_op ws (ops.Store x) word ps h = first_word ws (codes "store") (num word
 first_of_op ws (ops.Add x) word ps h = first_word ws (codes "add") (num word ∷ num x ∷ ps) h
 first_of_op ws (ops.Cas x y) word ps h = first_word ws (codes "cas") (num word ∷ num x ∷ num y ∷ ps) h
 
--- words write one access at most, at their front
+-- words write at most one access, at their front
 record SameAccess (a b : Op) (v w : ℕ) (ps qs : List Part) : Type 0 where
   op : a ≡ b
   word : v ≡ w
@@ -140,7 +140,7 @@ same_entry d e op word seq reply since core tag =
     ∙ ap (λ x. entry e.op e.word e.seq e.reply e.since x d.tag) core
     ∙ ap (λ x. entry e.op e.word e.seq e.reply e.since e.core x) tag
 
--- words write one line at most
+-- words write at most one line
 pub one_line : (ws : List (List ℕ)) (a b : TraceLine) → Writes ws (parts_of_line a) → Writes ws (parts_of_line b)
     → a ≡ b
 one_line ws (trace_lines.Init v x) (trace_lines.Init w y) h k =
@@ -181,7 +181,7 @@ one_line ws (trace_lines.Entry d) (trace_lines.Init w y) h k =
 same_list : {X : Type 0} (x y : X) (xs ys : List X) → x ≡ y → xs ≡ ys → x ∷ xs ≡ y ∷ ys
 same_list x y xs ys first rest = cc
 
--- statements write one list of lines at most
+-- statements write at most one list of lines
 pub same_lines : (version : Version) (ss : List (ℕ × List (List ℕ))) (ks ls : List TraceLine) → AreLines version ss ks
     → AreLines version ss ls → ks ≡ ls
 unfolding AreLines
@@ -222,7 +222,7 @@ same_trace (p ∷ i) (q ∷ j) a b h =
     let rest = same_trace i j a b (cc) in
     (same_list p q i j first rest.0, rest.1)
 
--- a text is judged to one verdict alone
+-- a text has only one verdict
 pub one_judgement : (text : List ℕ) (a b : Verdict) → IsJudged text a → IsJudged text b → a ≡ b
 one_judgement text a b h k =
     let here : ℕ × List (List ℕ) = (h.trace.number, h.trace.first) in

@@ -1,4 +1,4 @@
--- Where a line can't come next, the text is no trace.
+-- If a line can't come next, the text is no trace.
 use Rattle.std.proofs.Common.{◌≡◌, ℕ, ◌+◌, ◌<◌, List, [], ◌∷◌, ◌++◌, length, get_or, Option, Some, None, map, refl, sym}
 use Rattle.std.proofs.Common.{ap, subst, ◌∙◌, arith, inr, length-append, append_assoc}
 use Rattle.std.specs.Prelude.{IfSome}
@@ -23,12 +23,12 @@ use Rattle.trace_check.specs.SoFar.{IsLastNamed, MayBegin, Stands}
 use Rattle.trace_check.specs.Trace.{IsNextWord, IsNoMemoryOrLine, IsNoNextLine, IsReading, MayFollow}
 use Rattle.trace_check.proofs.ReadingLemmas.{one_version, one_line, same_lines, not_both}
 
--- the word and the value that a line names, where it names them
+-- the word and the value that a line names, if it names them
 abbrev pub named : TraceLine → Option (WordAddr × ℕ)
 named (trace_lines.Init word value) = Some (word, value)
 named (trace_lines.Entry e) = None
 
--- where a line that the words write may come next, so may a word's value that they write
+-- if a line that the words write may come next, so may a word's value that they write
 pub may_begin : (check : Check) (ws : List (List ℕ)) (word : WordAddr) (value : ℕ) (line : TraceLine)
     → Writes ws (parts_of_line (trace_lines.Init word value)) → Writes ws (parts_of_line line) → MayFollow check line
     → MayBegin check.trace word
@@ -153,7 +153,7 @@ may_follow check init all entries more before after (trace_lines.Init word value
           (subst (λ xs. IsAscendingBy (λ pair. pair.0.0) xs) next.shape ascending);
     }
 
--- where the next statement writes no line that may come next, all statements are no trace
+-- if the next statement writes no line that may come next, all statements are no trace
 pub no_trace : (check : Check) (version : Version) (all left : List (ℕ × List (List ℕ))) (s : ℕ × List (List ℕ))
     → check.version ≡ version
     → IsReading check all (s ∷ left) → IsNoNextLine check s.1 → AreNoTrace version all
@@ -171,7 +171,7 @@ no_trace check version all left s same reading none some =
     (may_follow check reading.init init reading.entries entries parts.before parts.after parts.line reading.stands
     trace.ascending names parts.shape)
 
--- .. and the statement is the first at fault, since those before it are lines of a trace
+-- .. and the statement is the first invalid one, since those before it are lines of a trace
 pub first_fault : (check : Check) (version : Version) (all left : List (ℕ × List (List ℕ)))
     (number : ℕ) (words : List (List ℕ))
     → check.version ≡ version → IsReading check all ((number, words) ∷ left) → IsNoNextLine check words
@@ -199,7 +199,7 @@ first_fault check version all left number words same reading none = record {
       }) none;
 }
 
--- where a fault names the line of a refused statement, it names the first at fault
+-- if a fault names the line of a refused statement, it names the first invalid one
 pub at_first_fault : (check : Check) (version : Version) (all left : List (ℕ × List (List ℕ))) (number : ℕ)
     (words : List (List ℕ)) (fault : TextFault) → check.version ≡ version → IsReading check all ((number, words) ∷ left)
     → IsNoMemoryOrLine (IsNoNextLine check words) fault → IsAtLine (λ n. n ≡ number) fault
@@ -234,7 +234,7 @@ no_text text number first rest version is begins none other init entries trace =
       ),
     )
 
--- a line at fault after the first is the text's
+-- an invalid line after the first is the text's
 pub at_fault : (statements rest : List (ℕ × List (List ℕ))) (number : ℕ) (first : List (List ℕ)) (version : Version)
     (fault : TextFault) → statements ≡ (number, first) ∷ rest → Writes first (parts_of_first version)
     → IsAtLine (IsFirstFault (AreSomeTrace version) rest) fault → IsAtLine (IsFaultAt statements) fault
@@ -244,7 +244,7 @@ at_fault statements rest number first version (text_faults.Line n fault) is begi
 at_fault statements rest number first version (text_faults.Config error) is begins at = tt
 at_fault statements rest number first version text_faults.CannotWrite is begins at = tt
 
--- a fault that is no want of memory comes also where less is refused
+-- why a text is refused may be replaced by something weaker
 pub IsNoMemoryOrLine-weaker : (P Q : Type 0) (fault : TextFault) → (P → Q) → IsNoMemoryOrLine P fault
     → IsNoMemoryOrLine Q fault
 IsNoMemoryOrLine-weaker P Q text_faults.NoMemory f h = tt
@@ -252,7 +252,7 @@ IsNoMemoryOrLine-weaker P Q (text_faults.Line number fault) f h = f h
 IsNoMemoryOrLine-weaker P Q (text_faults.Config error) f h = absurd h
 IsNoMemoryOrLine-weaker P Q text_faults.CannotWrite f h = absurd h
 
--- ---- what is wrong with the line at fault
+-- ---- what is wrong with the invalid line
 
 above_last : (last : Option WordAddr) (init : List (WordAddr × ℕ)) (word : WordAddr) → IsLastNamed last init
     → ((before : List (WordAddr × ℕ)) (l : WordAddr) (value : ℕ) → init ≡ before ++ (l, value) ∷ [] → l.0 < word.0)

@@ -23,7 +23,7 @@ same_latest latest d e core line =
 same_core : (d e : Entry) → d.core.0 ≡ e.core.0 → d.core ≡ e.core
 same_core d e number = ap (λ (n : ℕ). let c : CoreId = record { 0 = n } in c) number
 
--- an entry that has its core and line for itself is in order
+-- an entry that is the only one of its core and line is in order
 pub in_order_alone : (latest : LatestSeqs) (log : List Entry) (e : Entry) → AreGreatest latest log
     → latest_of latest (e.word.0 / 8) e.core.0 ≡ None
     → IsInOrder log e

@@ -1,4 +1,4 @@
--- In a trace without SINCE each entry has 0 for how long the log was, so none is wrong by it.
+-- In a trace without SINCE each entry has 0 as the log's length, so none is wrong by it.
 use Rattle.std.proofs.Common.{◌≡◌, ℕ, ◌<◌, List, [], ◌∷◌, ◌++◌, length, map, sym, ap, subst, ◌∙◌, arith}
 use Rattle.std.proofs.Common.{append_assoc, length-append, get_or, take, Bool, true, false, suc, zero}
 use Rattle.std.specs.Prelude.{codes, if◌then◌else◌}
@@ -72,7 +72,7 @@ bare_trace [] (pair ∷ init) entries written k d within = absurd written
 bare_trace (s ∷ statements) (pair ∷ init) entries written k d within =
     bare_trace statements init entries written.1 k d within
 
--- none of its entries is wrong by how long the log was
+-- none of its entries is wrong by the log's length
 pub none_by_since : (statements : List (ℕ × List (List ℕ))) (init : List (WordAddr × ℕ)) (entries : List Entry)
     (initial : ℕ → ℕ) (k : ℕ)
     → AreLines versions.WithoutSince statements (body_of init entries)

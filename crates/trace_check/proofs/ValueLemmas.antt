@@ -39,7 +39,7 @@ begun : (b : Bool) (was first v w : ℕ) → v < 2 ^ 64 → was ≡ value first 
 begun true was first v w small is = sym (value-nil v w small)
 begun false was first v w small is = is
 
--- one more word has a value to begin with
+-- one more word has an initial value
 pub values-begin : (was now : List ℕ) (init : List (WordAddr × ℕ)) (word : WordAddr) (v : ℕ) → v < 2 ^ 64
     → All (λ pair. pair.0.0 < word.0) init → ((w : ℕ) → get_or was w 0 ≡ value (initially init w) [] w)
     → ((w : ℕ) → get_or now w 0 ≡ cond (eqb word.0 w) v (get_or was w 0))
@@ -66,7 +66,7 @@ values-take was now initial log e values reply set w =
           ∙ values w ∙ sym (value-perform_other (initial w) log e w other.1)
     ]
 
--- where words ascend, those before a place are below the one there
+-- if words ascend, those before a place are below the one there
 pub named_below : (init : List (WordAddr × ℕ)) (i : ℕ) (d : WordAddr × ℕ) → IsAscendingBy (λ pair. pair.0.0) init
     → i < length init
     → All (λ pair. pair.0.0 < (get_or init i d).0.0) (take i init)

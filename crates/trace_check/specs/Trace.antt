@@ -57,7 +57,7 @@ pub record IsJudged (text : List ℕ) (verdict : Verdict) : Type 0 where
   pub trace : IsTrace version init entries text
   pub is : IsVerdict (initially init) entries verdict
 
--- the text is no trace, whatever values it were to begin with and whatever entries it were to have
+-- the text is no trace, with any initial values and entries
 abbrev pub IsNoTrace : List ℕ → Type 0
 IsNoTrace text =
     (version : Version) (init : List (WordAddr × ℕ)) (entries : List Entry) → ¬ IsTrace version init entries text
@@ -71,15 +71,15 @@ AreSomeTrace version statements =
 abbrev pub AreNoTrace : Version → List (ℕ × List (List ℕ)) → Type 0
 AreNoTrace version statements = ¬ AreSomeTrace version statements
 
--- why a text was read no further: there was no memory, or a line is at fault, and then it is refused for this
+-- why reading a text stopped: memory ran out, or a line is invalid, and then it is refused for this
 abbrev pub IsNoMemoryOrLine : Type 0 → TextFault → Type 0
 IsNoMemoryOrLine refused text_faults.NoMemory = Unit {0}
 IsNoMemoryOrLine refused (text_faults.Line number fault) = refused
 IsNoMemoryOrLine refused (text_faults.Config error) = ⊥
 IsNoMemoryOrLine refused text_faults.CannotWrite = ⊥
 
--- The line at fault of a text, by its statements: line 1 where there are none, the first of them where it begins no
--- trace, and else the first at fault after it.
+-- The invalid line of a text, by its statements: line 1 if there are none, the first of them if it begins no trace, and
+-- else the first invalid one after it.
 abbrev pub IsFaultAt : List (ℕ × List (List ℕ)) → ℕ → Type 0
 IsFaultAt [] number = number ≡ 1
 IsFaultAt (first ∷ rest) number =
@@ -111,13 +111,13 @@ pub record AreJudged (version : Version) (statements : List (ℕ × List (List �
   pub trace : AreTrace version init entries statements
   pub is : IsVerdict (initially init) entries verdict
 
--- ---- what is wrong with the line at fault
+-- ---- what is wrong with the invalid line
 
--- the words begin as a value to begin with, where there are entries already
+-- the words begin as an initial value, after some entries
 abbrev pub IsLate : Type 0 → List (List ℕ) → Type 0
 IsLate are_entries words = are_entries × BeginsWith (codes "init") words
 
--- What is wrong with words that can't come next. After an entry a value to begin with is no line there, however it is
+-- What is wrong with words that can't come next. After an entry an initial value is no line there, however it is
 -- written; nor is one for a word that may not be named next. Else it is what is wrong with them as a line.
 abbrev pub IsFaultNext : Type 0 → (WordAddr → Type 0) → Version → List (List ℕ) → LineFault → Type 0
 IsFaultNext are_entries MayBegin version words fault =
@@ -144,15 +144,15 @@ pub record IsFaultAmong (version : Version) (statements : List (ℕ × List (Lis
   pub written : AreLines version before (body_of init entries)
   pub is : IsFaultNext (0 < length entries) (IsNextWord init entries) version words fault
 
--- What is wrong with the line at fault of a text, by its statements: it is no trace where it says nothing or begins as
--- none, and else this is wrong with the first line that can't come next.
+-- What is wrong with the invalid line of a text, by its statements: it is no trace if it is empty or begins as none, and
+-- else this is wrong with the first line that can't come next.
 abbrev pub IsFaultOfTrace : List (ℕ × List (List ℕ)) → ℕ → LineFault → Type 0
 IsFaultOfTrace [] number fault = fault ≡ line_faults.NotATrace
 IsFaultOfTrace (first ∷ rest) number fault =
     (IsNoFirstLine first.1 × (fault ≡ line_faults.NotATrace))
     ⊎ ((version : Version) × Writes first.1 (parts_of_first version) × IsFaultAmong version rest number fault)
 
--- what holds of the line and of what is wrong with it, where a fault is of a line
+-- the property holds of the line and of what is wrong with it, if a fault is of a line
 abbrev pub IsOfLine : (ℕ → LineFault → Type 0) → TextFault → Type 0
 IsOfLine holds (text_faults.Line number fault) = holds number fault
 IsOfLine holds other = Unit {0}

@@ -26,15 +26,15 @@ use litmus_text::{LineFault, Statement, Statements, TextFault};
 use slice_log::Entry;
 use std::alloc::Global;
 
-/// What was read of a trace.
+/// The part of a trace that was read.
 #[derive(Drop)]
 struct Check {
     version: Version,
     trace: TraceJudge,
 }
 
-/// Judges a trace. The whole text is read first, so a faulty line counts before an entry at fault. The only faults are
-/// want of memory and a faulty line.
+/// Judges a trace. The whole text is read first, so a faulty line is reported before an invalid entry. The only faults
+/// are running out of memory and a faulty line.
 pub fn check_trace(alloc: Global, input: &[u8]) -> Result<Verdict, TextFault>
     ensures judged { IfOk result (IsJudged input.now) }
     ensures refused { IfErr result (IsNoMemoryOrLine (IsNoTrace input.now)) }
@@ -51,13 +51,13 @@ pub fn check_trace(alloc: Global, input: &[u8]) -> Result<Verdict, TextFault>
     }
 }
 
-/// A text has one verdict alone: its words are one trace's at most.
+/// A text has at most one verdict: its words are those of at most one trace.
 pub fn one_judgement()
     ensures { (text : List ℕ) (a b : Verdict) → IsJudged text a → IsJudged text b → a ≡ b }
 {}
 
-/// In a trace without SINCE no entry is at fault by how long the log was, which it doesn't say: its verdict is that of
-/// the replies and of the order alone.
+/// In a trace without SINCE no entry is invalid because of the log's length, which it doesn't give: the verdict is that
+/// of the replies and of the order alone.
 pub fn none_by_since()
     ensures { (text : List ℕ) (init : List (WordAddr × ℕ)) (entries : List Entry) (k : ℕ)
         → IsTrace versions.WithoutSince init entries text
@@ -114,7 +114,7 @@ impl Check {
         }
     }
 
-    /// The line that the words write, where it may come next.
+    /// Parses the words of a line that may come next.
     #[tactic(auto, unfolding(crate::specs::Trace::MayFollow))]
     fn line(&self, words: &[&[u8]]) -> Result<TraceLine, LineFault>
         ensures written { IfOk result (IsLineOf self.now.version (map (λ w. w.now) words.now)) }
@@ -129,7 +129,7 @@ impl Check {
             }
             Ok(TraceLine::Init(..)) => Err(LineFault::NotACommand),
             Ok(TraceLine::Entry(entry)) => Ok(TraceLine::Entry(entry)),
-            // it would be in the wrong place also if it were well formed
+            // it would be in the wrong place even if it were well formed
             Err(_) if self.trace.entries > 0 && begins_with(words, b"init") => {
                 Err(LineFault::NotACommand)
             }

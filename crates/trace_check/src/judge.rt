@@ -14,13 +14,13 @@ use address_map::WordAddr;
 use slice_log::{Entry, performed, reply_to};
 use std::alloc::{AllocError, Global};
 
-/// How many cores a trace can name.
+/// The number of cores that a trace can name.
 pub const MOST_CORES: u64 = 64;
 
-/// How many words a trace can name.
+/// The number of words that a trace can name.
 pub const MOST_WORDS: u64 = 524_288;
 
-/// What the entries of a trace have left so far.
+/// The state after the entries of a trace so far.
 #[derive(Debug, Drop)]
 pub struct Judge {
     /// The value of each word. Those past the last have 0.
@@ -30,7 +30,7 @@ pub struct Judge {
 }
 
 impl Judge {
-    /// Before the first entry.
+    /// Creates a judge, before the first entry.
     pub fn new(alloc: Global) -> Self
         ensures { Knows result (initially []) [] }
     {
@@ -40,7 +40,7 @@ impl Judge {
         }
     }
 
-    /// Names the value that a word begins with.
+    /// Sets the initial value of a word.
     pub fn begin(&mut self, word: WordAddr, value: u64) -> Result<(), AllocError>
         requires { word.0 < MOST_WORDS }
         ensures { OnOk result
@@ -50,7 +50,7 @@ impl Judge {
         set_slot(&mut self.values, 0, word.0 as usize, value)
     }
 
-    /// Why an entry can't follow those that were taken, of which there are `number`.
+    /// Returns why an entry can't follow the `number` entries that were taken.
     pub fn fault(&self, number: usize, entry: &Entry) -> Option<Reason>
         requires { IsNameable entry.now }
         ensures { (initial : ℕ → ℕ) (log : List Entry) → number ≡ length log → Knows self.now initial log
@@ -90,7 +90,7 @@ impl Judge {
         }
     }
 
-    // Whether the entry was asked for after all of its core and line that were taken.
+    // Whether the entry was requested after all entries of its core and line that were taken.
     fn is_in_order(&self, entry: &Entry) -> bool
         requires { IsNameable entry.now }
         ensures { (log : List Entry) → AreGreatest self.now.latest log
@@ -103,7 +103,7 @@ impl Judge {
     }
 }
 
-// The number of the entry's line.
+// Returns the number of the entry's line.
 fn line_of(entry: &Entry) -> usize
     requires { IsNameable entry.now }
     ensures { result ≡ entry.now.word.0 / 8 }
@@ -111,7 +111,7 @@ fn line_of(entry: &Entry) -> usize
     entry.word.line().0 as usize
 }
 
-/// A log has one verdict alone, so one that is legal and ordered is judged legal, and no other is.
+/// A log has only one verdict, so one that is legal and ordered is judged legal, and no other is.
 pub fn one_verdict()
     ensures { (initial : ℕ → ℕ) (entries : List Entry) (a b : Verdict) → IsVerdict initial entries a
         → IsVerdict initial entries b → a ≡ b }

@@ -4,8 +4,8 @@ ghost use Rattle.trace_check.specs.Latest.{latest_of};
 use super::slots::set_slot;
 use std::alloc::{AllocError, Global};
 
-/// The greatest seq of each core and line. A line that wasn't named has no room, and the others have room for the cores
-/// up to the last that was named with them.
+/// The greatest seq of each core and line. A line that wasn't named has no slots, and the others have slots for the
+/// cores up to the last that was named with them.
 #[derive(Debug, Drop)]
 pub struct LatestSeqs {
     lines: Vec<Vec<Option<u64>>>,
@@ -13,7 +13,7 @@ pub struct LatestSeqs {
 }
 
 impl LatestSeqs {
-    /// No seq at all.
+    /// Creates an empty table.
     pub fn new(alloc: Global) -> Self
         ensures { (line core : ℕ) → latest_of result line core ≡ None }
     {
@@ -43,7 +43,7 @@ impl LatestSeqs {
         set_slot(&mut self.lines[line], None, core, Some(seq))
     }
 
-    // The line is there from now on.
+    // Makes room for the line.
     fn make_room(&mut self, line: usize) -> Result<(), AllocError>
         requires { line < 2 ^ 32 }
         ensures there { OnOk result (line < length self.new.lines.items) }

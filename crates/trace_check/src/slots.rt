@@ -2,7 +2,7 @@ ghost use Rattle.std.specs.Prelude.{◌≡◌, ◌<◌, ◌^◌, ◌==◌, ℕ, 
 
 use std::alloc::AllocError;
 
-/// Sets the slot at a place. Where there are too few slots, more are filled with `empty`.
+/// Sets the slot at a place. If there are too few slots, more are filled with `empty`.
 pub fn set_slot<T: Copy>(
     slots: &mut Vec<T>,
     empty: T,

@@ -15,17 +15,17 @@ use address_map::{CoreId, WordAddr};
 use litmus_text::{LineFault, parse_access, parse_number, two_numbers};
 use slice_log::Entry;
 
-/// How many tags a core has.
+/// The number of tags of a core.
 pub const MOST_TAGS: u64 = 64;
 
-/// How a trace is written.
+/// The version of a trace's text.
 #[derive(Clone, Copy, Debug, PartialEq, Eq)]
 pub enum Version {
     /// For 16 cores, without compare-exchanges.
     One,
     /// For 64 cores.
     Two,
-    /// For 64 cores. Entries end with their reply: who wrote them needn't know how long the log was.
+    /// For 64 cores. Entries end with their reply: a writer needn't know the log's length.
     WithoutSince,
 }
 
@@ -39,7 +39,7 @@ pub enum TraceLine {
 }
 
 impl Version {
-    /// The version that the words of the first line name.
+    /// Parses the words of the first line.
     pub fn parse(words: &[&[u8]]) -> Result<Self, LineFault>
         ensures written { IfOk result (λ version. Writes (map (λ w. w.now) words.now) (parts_of_first version)) }
         ensures refused { IfErr result (λ fault. IsNoFirstLine (map (λ w. w.now) words.now)) }
@@ -65,7 +65,7 @@ impl Version {
         }
     }
 
-    /// How many cores a trace of this version can name.
+    /// Returns the number of cores that a trace of this version can name.
     const fn cores(self) -> u64
         ensures { result ≡ cores_of self }
     {
@@ -76,7 +76,7 @@ impl Version {
     }
 }
 
-// The version, after the word that all traces begin with.
+// Parses the version, after the first word of all traces.
 #[tactic(auto, using(litmus_text::proofs::FormLemmas::wrong_count))]
 fn version_of(words: &[&[u8]]) -> Result<Version, LineFault>
     ensures written { IfOk result (λ version. Writes (map (λ w. w.now) words.now) (key (number_of version) ∷ [])) }
@@ -104,8 +104,8 @@ fn numbered(number: &[u8]) -> Result<Version, LineFault>
 }
 
 impl TraceLine {
-    /// The line that these words write. They are judged first by their keywords and their count, then as numbers, and
-    /// last by what a trace can name.
+    /// Parses the words of a line. Checks first the keywords and the number of words, then the numbers, and last that a
+    /// trace can name them.
     pub fn parse(version: Version, words: &[&[u8]]) -> Result<Self, LineFault>
         ensures written { IfOk result (IsLineOf version (map (λ w. w.now) words.now)) }
         ensures refused { IfErr result (λ fault. IsNoLineOf version (map (λ w. w.now) words.now)) }
@@ -181,7 +181,7 @@ fn full_words<'a>(words: &'a [&'a [u8]]) -> Option<EntryWords<'a>>
     })
 }
 
-/// The words of an entry that ends with its reply.
+/// Returns the words of an entry that ends with its reply.
 fn bare_words<'a>(words: &'a [&'a [u8]]) -> Option<EntryWords<'a>>
     ensures parts { IfSome result
         (λ e. map (λ w. w.now) words.now ++ codes "0" ∷ []
@@ -248,7 +248,7 @@ fn is_same(word: &[u8], name: &[u8]) -> bool
     word == name
 }
 
-// The number that a word has to spell.
+// Parses a word that has to be a number.
 fn number(word: &[u8]) -> Result<u64, LineFault>
     ensures ok { OkIff result (IsNumber word.now) (digits_value 10 word.now) }
     ensures err { IfErr result (λ fault. fault ≡ LineFault.BadNumber) }

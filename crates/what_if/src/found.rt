@@ -49,7 +49,7 @@ pub(crate) fn joined_row(tables: &Tables, line: &Line, met: &Met) -> Option<(Row
     }
 }
 
-/// The steps by which messages of the core, or to it, are taken first in first out.
+/// Returns the steps by which messages of the core, or to it, are taken first in first out.
 pub(crate) const fn deliveries_to(core: CoreId) -> [Step; 3] {
     [
         Step::TakeRequest(core),

@@ -96,7 +96,7 @@ fn write_blocked<W: Write>(
     Ok(())
 }
 
-// A step: who does what, the cell that it meets, and what its row does. One that never comes has no place.
+// A step: what which core does, the cell that it meets, and what its row does. One that never comes has no place.
 fn write_step<W: Write>(
     alloc: Global,
     tables: &Tables,

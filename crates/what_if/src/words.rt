@@ -32,7 +32,7 @@ pub const fn name_of_promise(promise: Promise) -> &'static str {
     }
 }
 
-/// The event of a cell of a private cache.
+/// Returns the name of the event of a cell of a private cache.
 pub(crate) const fn name_of_case(case: CacheCase) -> &'static str {
     match case {
         CacheCase::Load => "load",
@@ -78,7 +78,7 @@ pub(crate) fn write_data_kind<W: Write>(kind: DataKind, out: &mut W) -> fmt::Res
     }
 }
 
-/// What a row of a private cache does.
+/// Writes what a row of a private cache does.
 pub(crate) fn write_row<W: Write>(case: CacheCase, row: Row, out: &mut W) -> fmt::Result {
     match row {
         Row::Go(next, sends) => {
@@ -99,7 +99,7 @@ pub(crate) fn write_cache_cell<W: Write>(
     write!(out, "cache {state}, {event}")
 }
 
-/// The cores of a set, with commas between them.
+/// Writes the cores of a set, with commas between them.
 pub(crate) fn write_cores<W: Write>(cores: CoreSet, out: &mut W) -> fmt::Result {
     let mut rest = cores;
     let mut comma = "";
@@ -158,7 +158,7 @@ fn write_sent<W: Write>(sends: DirSends, out: &mut W) -> fmt::Result {
     }
 }
 
-/// What a row of a directory does.
+/// Writes what a row of a directory does.
 pub(crate) fn write_directory_row<W: Write>(row: &DirRow, out: &mut W) -> fmt::Result {
     match *row {
         DirRow::Go(does) => {

@@ -1,4 +1,4 @@
--- What a search tells of a buffer, and what each change makes of it.
+-- What a search says of a buffer, and what each change makes of it.
 use Rattle.std.proofs.Common.{◌≡◌, ◌≢◌, ◌↔◌, ◌==◌, IsTrue, ℕ, ◌<◌, Bool, true, false, List, [], ◌∷◌, length, get_or}
 use Rattle.std.proofs.Common.{drop, Some, None, refl, sym, ◌∙◌, arith, inl, inr, not, append-nil}
 use Rattle.std.specs.Prelude.{position, remove, slice_set}
@@ -23,7 +23,7 @@ use Rattle.writeback_buffer.proofs.HeldLaws.{held_at-map_other, held_at-filter_s
 
 -- ---- a search
 
--- the place that a search answers is the line's only one
+-- the place that a search returns is the line's only one
 pub only-found : (buffer : Buffer) (line place : ℕ) → IsBuffer buffer
     → position (is_of line) buffer.write_backs ≡ Some place
     → PassesOnlyAt (is_of line) buffer.write_backs place
@@ -42,7 +42,7 @@ pub held-found : (buffer : Buffer) (line place : ℕ) (d : PendingWriteBack) →
 held-found buffer line place d sound found =
     held_at-only buffer.write_backs line place d (only-found buffer line place sound found)
 
--- and where it answers none, nothing is held
+-- and where it returns none, nothing is held
 pub held-missing : (buffer : Buffer) (line : ℕ) → position (is_of line) buffer.write_backs ≡ None
     → held_at buffer.write_backs line ≡ None
 held-missing buffer line missing =
@@ -166,7 +166,7 @@ pub without_line-removed : (inside buffer : Buffer) (line place : ℕ) (left : L
 without_line-removed inside buffer line place left same is sound found =
     rw (is, same, remove-only (is_of line) buffer.write_backs place (only-found buffer line place sound found)) refl
 
--- what is left stood apart before
+-- what is left was distinct before
 pub IsBuffer-without_line : (old new : Buffer) (line : ℕ) → IsBuffer old → new ≡ without_line old line → IsBuffer new
 IsBuffer-without_line old new line sound removed =
     rw removed

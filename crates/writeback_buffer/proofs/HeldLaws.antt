@@ -1,4 +1,4 @@
--- What is held of a line after each change of the write-backs, and that no line comes to stand twice.
+-- What is held of a line after each change of the write-backs, and that no line comes to occur twice.
 use Rattle.std.proofs.Common.{◌≡◌, ◌≢◌, ℕ, ◌<◌, true, false, if◌then◌else◌, List, [], ◌∷◌, ◌++◌, length, get_or, map}
 use Rattle.std.proofs.Common.{filter, Some, None, suc, zero, refl, ap, sym, ◌∙◌, arith, not, inl, inr}
 use Rattle.std.specs.Option.{option_map}

@@ -21,11 +21,11 @@ abbrev pub held_at : List PendingWriteBack → ℕ → Option Leaving
 held_at [] line = None
 held_at (write_back ∷ rest) line = if is_of line write_back then Some write_back.leaving else held_at rest line
 
--- no line stands twice: a line that leaves can't leave again before it is acknowledged
+-- no line occurs twice: a line being written back can't be evicted again before it is acknowledged
 abbrev pub HasEachLineOnce : List PendingWriteBack → Type 0
 HasEachLineOnce write_backs = AllPairs (λ earlier later. earlier.line.0 ≢ later.line.0) write_backs
 
--- what holds of every buffer: no line stands twice, and it has no more write-backs than it was configured with
+-- what holds of every buffer: no line occurs twice, and it has no more write-backs than it was configured with
 pub record IsBuffer (buffer : Buffer) : Type 0 where
   pub once : HasEachLineOnce buffer.write_backs
   pub fits : length buffer.write_backs ≤ buffer.capacity

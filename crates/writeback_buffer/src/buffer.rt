@@ -32,7 +32,7 @@ impl WritebackBuffer {
     ghost use Rattle.writeback_buffer.specs.Buffer.{IsBuffer, ChangesOnly, empty_buffer, held_at, in_state, with_line};
     ghost use Rattle.writeback_buffer.specs.Buffer.{with_state, without_line};
 
-    /// An empty buffer, with room for as many write-backs as the configuration has.
+    /// Returns an empty buffer, with room for the configured number of write-backs.
     pub fn make(config: &Checked) -> Self
         ensures { result ≡ empty_buffer config.now.writebacks }
     {
@@ -42,7 +42,7 @@ impl WritebackBuffer {
         }
     }
 
-    /// The same write-backs. It takes no memory.
+    /// Returns a copy of the write-backs. It allocates nothing.
     pub fn copy(&self) -> Self
         ensures { result ≡ self.now }
     {
@@ -129,7 +129,7 @@ impl WritebackBuffer {
         Some(self.write_backs.remove(place).leaving)
     }
 
-    // Where the line stands.
+    // Returns where the line is.
     fn place_of(&self, line: Local) -> Option<usize>
         ensures place { result ≡ position (is_of line.0) self.now.write_backs }
         ensures sound { IsBuffer self.now }

@@ -8,7 +8,7 @@ pub struct Leaving {
     pub state: CopyState,
 }
 
-/// A line that leaves.
+/// A line that is being written back.
 #[derive(Clone, Copy, Debug, PartialEq, Eq)]
 pub struct PendingWriteBack {
     pub leaving: Leaving,

@@ -1,4 +1,4 @@
-//! Ways from a cluster around to itself.
+//! Circles from a cluster back to itself.
 
 use super::super::refutation::{Link, Why};
 use super::graph::{Graph, Zone};
@@ -7,12 +7,12 @@ use std::alloc::{AllocError, Global};
 
 const CORES: usize = 256;
 
-/// How many clusters are tried as the first of a circle, and of how many each is.
+/// The number of clusters tried as the first of a circle; among at most `FEW` clusters each is tried.
 const TRIES: usize = 8;
 
 const FEW: usize = 1000;
 
-/// Returns the ways around a short circle of clusters, of which one leads through this cluster.
+/// Returns the links of a short circle of clusters, if a circle leads through this cluster.
 pub fn shortest(alloc: Global, graph: &Graph, root: usize) -> Result<Vec<Link>, AllocError> {
     let mut best = found(alloc, graph, root)?;
     for turn in 0..TRIES {
@@ -36,7 +36,7 @@ pub fn shortest(alloc: Global, graph: &Graph, root: usize) -> Result<Vec<Link>, 
     Ok(best)
 }
 
-// The shortest ways around from a cluster.
+// Returns the shortest circle from a cluster.
 fn found(alloc: Global, graph: &Graph, root: usize) -> Result<Vec<Link>, AllocError> {
     let mut paths = Paths::of(alloc, graph, root)?;
     for turn in 0..graph.count {
@@ -52,13 +52,13 @@ fn found(alloc: Global, graph: &Graph, root: usize) -> Result<Vec<Link>, AllocEr
     Ok(Vec::new(alloc))
 }
 
-/// The shortest ways from a cluster to others.
+/// The shortest paths from a cluster to others.
 #[derive(Drop)]
 struct Paths {
     root: usize,
     /// The last access of the root by each core.
     last: Vec<usize>,
-    /// The clusters that were reached, in that order, and the way to each.
+    /// The clusters that were reached, in that order, and the link to each.
     reached: Vec<usize>,
     ways: Vec<Option<Link>>,
     /// The accesses after which all of their core were reached.
@@ -85,7 +85,7 @@ impl Paths {
         })
     }
 
-    // The way from another cluster to the root, if there is one.
+    // Returns the link from another cluster to the root, if there is one.
     fn back(&self, graph: &Graph, cluster: usize) -> Option<Link> {
         if cluster == self.root {
             return None;
@@ -139,7 +139,7 @@ impl Paths {
         Ok(())
     }
 
-    // All clusters that began something after this one had ended something.
+    // To all clusters with an access that began after one of this cluster's had ended.
     fn go_along_times(&mut self, graph: &Graph, cluster: usize) -> Result<(), AllocError> {
         let Zone { end, ended, .. } = graph.zone(cluster);
         for place in self.begun..graph.by_begin.len() {
@@ -171,7 +171,7 @@ impl Paths {
         Ok(())
     }
 
-    // The ways from the root to the last one, and that one.
+    // Returns the links from the root to the last one, and that one.
     fn around(&self, alloc: Global, graph: &Graph, last: Link) -> Result<Vec<Link>, AllocError> {
         let mut ways = Vec::new(alloc);
         ways.push(last)?;

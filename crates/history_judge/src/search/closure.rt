@@ -8,10 +8,10 @@ use super::plan::Plan;
 use super::sources::{Source, Sources};
 use std::alloc::{AllocError, Global};
 
-/// How often all accesses are gone over.
+/// The maximum number of passes over all accesses.
 const PASSES: usize = 64;
 
-/// How many circles are noted.
+/// The maximum number of circles noted.
 const CIRCLES: usize = 16;
 
 /// No edge.
@@ -38,7 +38,7 @@ pub enum By {
 #[derive(Drop)]
 pub struct Closure {
     cores: usize,
-    /// How many accesses of each core come before each access, and the edge by which the last of them does.
+    /// The number of accesses of each core that come before each access, and the edge by which the last of them does.
     clocks: Vec<u32>,
     causes: Vec<u32>,
     pub edges: Vec<Edge>,
@@ -103,7 +103,7 @@ impl Closure {
         Ok(())
     }
 
-    // An access comes after the one that its core asked for before it, and those that had ended when it began.
+    // An access comes after the one that its core requested before it, and those that had ended when it began.
     fn follow(&mut self, plan: &Plan, place: usize, ended: &[usize]) -> Result<(), AllocError> {
         let before = plan.before(place);
         if before != NONE {
@@ -171,12 +171,12 @@ impl Closure {
         Ok(())
     }
 
-    /// How many accesses of a core come before this one.
+    /// Returns the number of accesses of a core that come before this one.
     pub fn before(&self, place: usize, core: usize) -> usize {
         at(&self.clocks, self.cell(place, core), 0) as usize
     }
 
-    /// The edge by which the last of them does.
+    /// Returns the edge by which the last of them does.
     pub fn cause(&self, place: usize, core: usize) -> Option<usize> {
         match at(&self.causes, self.cell(place, core), NO_EDGE) {
             NO_EDGE => None,
@@ -188,7 +188,7 @@ impl Closure {
         place.saturating_mul(self.cores).saturating_add(core)
     }
 
-    // How many accesses of a core come before whatever is after this one.
+    // Returns the number of accesses of a core that come before anything after this one.
     fn behind(&self, plan: &Plan, place: usize, core: usize) -> usize {
         if at(&plan.core, place, NONE) == core {
             at(&plan.rank, place, 0).saturating_add(1)
@@ -247,7 +247,7 @@ const fn linked(first: usize, last: usize, why: Why) -> Edge {
 #[derive(Drop)]
 struct Ended {
     last: Vec<usize>,
-    /// How many of `by_end` have.
+    /// The number of accesses of `by_end` that have.
     count: usize,
 }
 

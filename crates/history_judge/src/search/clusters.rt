@@ -5,7 +5,7 @@ use super::lists::{NONE, at, put};
 use super::sources::{Source, Sources};
 use std::alloc::{AllocError, Global};
 
-/// Accesses that stand together in each order: a value that is left, the accesses that found it, and where one of these
+/// Accesses that are together in each order: a value that is left, the accesses that found it, and if one of these
 /// changed it, the next value with those that found that. Cluster 0 begins with the initial value.
 #[derive(Drop)]
 pub struct Clusters {

@@ -8,8 +8,8 @@ use std::alloc::{AllocError, Global};
 
 const CORES: usize = 256;
 
-/// The first end and the last begin of a cluster's accesses, and of which they are. A cluster comes before each other
-/// one whose last begin is after its first end.
+/// The first end and the last begin of a cluster's accesses, and the accesses that have them. A cluster comes before
+/// each other one whose last begin is after its first end.
 #[derive(Clone, Copy, Debug, PartialEq, Eq)]
 pub struct Zone {
     pub end: u64,
@@ -30,7 +30,7 @@ pub struct Graph {
     pub members: Rows,
     pub edges: Rows,
     pub zones: Vec<Zone>,
-    /// The clusters but the first by their ends, and by their begins from the last on.
+    /// The clusters except the first: by their ends, and by their begins from the last on.
     pub by_end: Vec<(u64, usize)>,
     pub by_begin: Vec<(u64, usize)>,
 }
@@ -58,7 +58,7 @@ impl Graph {
         })
     }
 
-    /// Returns two accesses of which that of the first cluster comes after the other, which isn't in it.
+    /// Returns an access of the first cluster, and one of another that comes before it.
     pub fn before_first(&self) -> Option<Pair> {
         for (later, earlier) in self.next.iter().enumerate() {
             let is_other = !matches!(at(&self.cluster, later, 0), 0 | NONE);

@@ -1,9 +1,9 @@
-//! Lists of places, read and written without a thought of their ends.
+//! Lists of places, with reads and writes that may be past the end.
 
-/// The place of nothing.
+/// No place.
 pub const NONE: usize = usize::MAX;
 
-/// Returns what is at a place, or this past the end.
+/// Returns the item at a place, or `other` past the end.
 pub fn at<T: Copy>(items: &[T], place: usize, other: T) -> T {
     match items.get(place) {
         Some(item) => *item,

@@ -11,7 +11,7 @@ const CORES: usize = 256;
 /// The accesses of a history, and which of them a rule needs.
 #[derive(Drop)]
 pub struct Plan {
-    /// How many cores there are.
+    /// The number of cores.
     pub cores: usize,
     /// The core of each access, and its number among the core's.
     pub core: Vec<usize>,
@@ -93,7 +93,7 @@ impl Plan {
         Ok(items)
     }
 
-    // Of accesses of one core that found the same, the last alone: the others come before it.
+    // Returns, of accesses of one core that found the same, only the last: the others come before it.
     fn reading(&self, alloc: Global, sources: &Sources) -> Result<Vec<(usize, usize)>, AllocError> {
         let mut found = Vec::new(alloc);
         for (place, source) in sources.all.iter().enumerate() {
@@ -115,7 +115,7 @@ impl Plan {
         Ok(items)
     }
 
-    /// The last access of a core that changes the word, among so many of its first.
+    /// Returns the last access of a core that changes the word, among its first `before` accesses.
     pub fn last_write(&self, word: usize, core: usize, before: usize) -> usize {
         let Some(last) = before.checked_sub(1) else {
             return NONE;
@@ -134,7 +134,7 @@ impl Plan {
         }
     }
 
-    /// The last access of a core that found the word's initial value.
+    /// Returns the last access of a core that found the word's initial value.
     pub fn last_first(&self, word: usize, core: usize) -> usize {
         match self.firsts.row(self.row_of(word, core)).last() {
             Some((_, place)) => *place,
@@ -142,7 +142,7 @@ impl Plan {
         }
     }
 
-    /// The access that its core asked for before this one.
+    /// Returns the access that its core requested before this one.
     pub fn before(&self, place: usize) -> usize {
         let Some(rank) = at(&self.rank, place, 0).checked_sub(1) else {
             return NONE;

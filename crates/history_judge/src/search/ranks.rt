@@ -1,4 +1,4 @@
-//! The order that cores and intervals alone ask for.
+//! The order that cores and intervals alone require.
 
 use super::super::access::Access;
 use super::super::refutation::{Contradiction, Link, Step, Why};
@@ -8,7 +8,7 @@ use std::alloc::{AllocError, Global};
 
 const CORES: usize = 256;
 
-/// Two accesses that are in an order, of which the later one comes first.
+/// Two accesses of an order. The later one has to come before the earlier one.
 #[derive(Clone, Copy, Debug, PartialEq, Eq)]
 pub struct Pair {
     pub earlier: usize,
@@ -16,7 +16,7 @@ pub struct Pair {
     pub why: Why,
 }
 
-/// Ranks the accesses so that each core's own order and the intervals are kept, or tells why that can't be.
+/// Ranks the accesses so that each core's own order and the intervals are kept, or returns why that is impossible.
 pub fn ranked(
     alloc: Global,
     history: &[Access],
@@ -43,7 +43,7 @@ pub fn ranked(
     Ok(Ok(ranks))
 }
 
-// A core asked for the one before the other, which ended before the one began.
+// A core requested the one before the other, which ended before the one began.
 fn backwards(alloc: Global, one: usize, other: usize) -> Result<Contradiction, AllocError> {
     let mut steps = Vec::new(alloc);
     steps.push(Step::Next(one, Why::Interval))?;

@@ -1,7 +1,7 @@
 use super::lists::{at, count};
 use std::alloc::{AllocError, Global};
 
-/// Numbers by the row that each is in.
+/// Numbers, sorted into rows.
 #[derive(Drop)]
 pub struct Rows {
     items: Vec<(usize, usize)>,
@@ -9,7 +9,7 @@ pub struct Rows {
 }
 
 impl Rows {
-    /// Sorts numbers, which are paired with their rows, into so many rows.
+    /// Sorts numbers, which are paired with their rows, into `rows` rows.
     pub fn of(
         alloc: Global,
         mut items: Vec<(usize, usize)>,

@@ -1,4 +1,4 @@
-//! Drops accesses that a contradiction can do without.
+//! Drops accesses that a contradiction doesn't need.
 
 use super::super::access::Access;
 use super::super::refutation::{Chain, Contradiction, Link, Step, is_refuted};
@@ -9,10 +9,10 @@ use super::sources::Sources;
 use address_map::WordAddr;
 use std::alloc::{AllocError, Global};
 
-/// Contradictions of more accesses stay as they are.
+/// Contradictions of more accesses aren't shortened.
 const MOST: usize = 1000;
 
-/// How often accesses are dropped at most, some at a time.
+/// The maximum number of attempts to drop accesses, some at a time.
 const TRIES: usize = 4 * MOST;
 
 /// Returns a contradiction of as few of its accesses as still contradict one another.
@@ -68,7 +68,7 @@ impl Part {
         }
     }
 
-    // The first part of half as many.
+    // The first part of half the size.
     fn smaller(self) -> Self {
         Part {
             first: 0,
@@ -165,7 +165,7 @@ fn without(
     }
 }
 
-// A circle of these accesses. Of one that found what none of them left it isn't asked where that came from.
+// A circle of these accesses. If one found what none of them left, the source of that is ignored.
 fn circle_of(
     alloc: Global,
     initial: &[(WordAddr, u64)],

@@ -4,7 +4,7 @@ use super::super::writers::{Tables, Writer, Writers};
 use address_map::WordAddr;
 use std::alloc::{AllocError, Global};
 
-/// Where the value comes from that an access found.
+/// Where the value that an access found comes from.
 #[derive(Clone, Copy, Debug, PartialEq, Eq)]
 pub enum Source {
     /// It found none, or it isn't known which of several left it.

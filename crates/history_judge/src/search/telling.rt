@@ -7,10 +7,10 @@ use super::plan::Plan;
 use std::alloc::{AllocError, Global};
 use std::collections::HashMap;
 
-/// How many edges are told at most.
+/// The maximum number of steps to explain edges.
 const MOST: usize = 10_000;
 
-/// One step of a chain that may still need to be told.
+/// One step of a chain that may still need to be explained.
 #[derive(Clone, Copy)]
 enum Move {
     Along(Edge),
@@ -18,15 +18,15 @@ enum Move {
     Lower(usize),
 }
 
-/// What was told so far.
+/// The chains so far.
 #[derive(Drop)]
 struct Telling {
     chains: Vec<Chain>,
-    /// The number of the chain that came to an edge, by its first and last access.
+    /// The number of the chain that shows an edge, by its first and last access.
     told: HashMap<(usize, usize), usize>,
 }
 
-/// Returns the contradiction in which an edge ends before what comes before it.
+/// Returns the contradiction of an edge whose end comes before its start.
 pub fn told(
     alloc: Global,
     plan: &Plan,
@@ -63,7 +63,7 @@ pub fn told(
     Ok(None)
 }
 
-// The way from an access to one that it comes before.
+// The path from an access to one that it comes before.
 fn path(
     alloc: Global,
     plan: &Plan,
@@ -99,7 +99,7 @@ fn path(
     Ok(moves)
 }
 
-// The moves that come to an edge.
+// The moves that show an edge.
 fn justified(
     alloc: Global,
     plan: &Plan,
@@ -125,7 +125,7 @@ fn justified(
     }
 }
 
-// The same moves, but that the first edge is one that needs no other.
+// The same moves, but with a first edge that needs no other.
 fn opened(
     alloc: Global,
     plan: &Plan,
@@ -164,14 +164,14 @@ impl Telling {
         None
     }
 
-    // The last chain came to this edge.
+    // The last chain shows this edge.
     fn number(&mut self, edge: Edge) -> Result<(), AllocError> {
         let number = self.chains.len().saturating_sub(1);
         self.told.insert((edge.first, edge.last), number)?;
         Ok(())
     }
 
-    // The chain of moves whose edges are all told.
+    // The chain of moves whose edges are all explained.
     fn chain(&self, alloc: Global, moves: &[Move]) -> Result<Option<Chain>, AllocError> {
         let Some(Move::Along(first)) = moves.first().copied() else {
             return Ok(None);

@@ -5,7 +5,7 @@ use super::lists::{NONE, at, count, put};
 use std::alloc::{AllocError, Global};
 use std::collections::BinaryHeap;
 
-/// An order of the clusters, or the ways around some that come before each other.
+/// An order of the clusters, or a circle of some that come before each other.
 pub enum Turns {
     All(Vec<usize>),
     Never(Vec<Link>),
@@ -93,13 +93,13 @@ impl Taking {
         Ok((is_ready && self.is_first(graph, cluster)).then_some(cluster))
     }
 
-    // Whether no other cluster ended something before this one began its last access.
+    // Whether no access of another cluster ended before this one's last access began.
     fn is_first(&self, graph: &Graph, cluster: usize) -> bool {
         let other = self.first_end(graph, cluster);
         other == NONE || graph.zone(cluster).begin <= graph.zone(other).end
     }
 
-    // The one of the other clusters that ended something first.
+    // The other cluster with the first end.
     fn first_end(&self, graph: &Graph, cluster: usize) -> usize {
         let (_, first) = at(&graph.by_end, self.ends.0, (0, NONE));
         let (_, second) = at(&graph.by_end, self.ends.1, (0, NONE));

@@ -8,7 +8,7 @@ pub enum Ended {
     Done,
     /// The round of this number is stuck.
     Stuck(u64),
-    /// .. or has made as many moves as it may, and could go on.
+    /// .. or has made the maximum number of moves, and could go on.
     GaveUp(u64),
 }
 
@@ -20,7 +20,7 @@ impl Ended {
         matches!(self, Ended::Done)
     }
 
-    /// The number of the round that has no outcome, or 0.
+    /// Returns the number of the round that has no outcome, or 0.
     pub const fn round(self) -> u64
         ensures { result ≡ round_of self }
     {
@@ -30,7 +30,7 @@ impl Ended {
         }
     }
 
-    /// The same of rounds that follow so many others.
+    /// Returns the same for rounds that follow `rounds` others.
     pub const fn behind(self, rounds: u64) -> Ended
         requires { rounds + round_of self < 2 ^ 64 }
         ensures { result ≡ ended_behind rounds self }

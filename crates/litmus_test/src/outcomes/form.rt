@@ -18,7 +18,7 @@ pub enum OutcomeForm {
     Json,
 }
 
-/// Writes the outcomes of rounds. Where the seed of round 0 is given, each has the seed of its first round.
+/// Writes the outcomes of rounds. If the seed of round 0 is given, each has the seed of its first round.
 pub fn write_outcomes<W: Write>(
     test: &LitmusTest<'_>,
     outcomes: &Outcomes,

@@ -15,8 +15,8 @@ use litmus_text::{Number, write_comma};
 use std::fmt::Write;
 use std::{fmt, str};
 
-/// Writes the outcomes as one value, in one line. A name that is no text isn't written: that is an error, as where the
-/// writer has one.
+/// Writes the outcomes as one value, in one line. A name that is no text isn't written: that is an error, like one of
+/// the writer.
 pub(crate) fn write_json<W: Write>(
     test: &LitmusTest<'_>,
     outcomes: &Outcomes,

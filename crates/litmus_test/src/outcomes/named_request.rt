@@ -9,17 +9,17 @@ use address_map::{Checked, CoreId, SliceId, WordAddr, is_of_slice, slice_of};
 use slice_log::Entry;
 use std::alloc::{AllocError, Global};
 
-/// A request of a litmus test, by what its entry in the log of a slice has.
+/// A request of a litmus test, identified by its entry in the log of a slice.
 #[derive(Clone, Copy, Debug, PartialEq, Eq)]
 pub struct NamedRequest {
     pub core: CoreId,
     pub slice: SliceId,
-    /// How many requests the core makes of the slice before this one.
+    /// The number of requests that the core makes to the slice before this one.
     pub seq: u64,
 }
 
 impl NamedRequest {
-    /// The request whose reply has the name of this number. There is none where the test has no such name, or the name
+    /// Returns the request whose reply has the name of this number, or none if the test has no such name, or the name
     /// is of no access.
     pub fn of(test: &LitmusTest<'_>, name: usize) -> Option<Self>
         ensures { result ≡ named_request_of test.now name }
@@ -29,7 +29,7 @@ impl NamedRequest {
         NamedRequest::at(&test.config, thread, named.step)
     }
 
-    /// The requests of all names, in their order.
+    /// Returns the requests of all names, in their order.
     pub fn all(alloc: Global, test: &LitmusTest<'_>) -> Result<Vec<Option<Self>>, AllocError>
         ensures { IfOk result
             (λ all. all.items ≡ map (named_request_of test.now) (range_with_len 0 (length test.now.names.items))) }
@@ -41,7 +41,7 @@ impl NamedRequest {
         Ok(all)
     }
 
-    // The request of a step of a thread.
+    // Returns the request of a step of a thread.
     fn at(config: &Checked, thread: &Thread, step: usize) -> Option<Self>
         ensures { result ≡ named_request_at config.now thread.now step }
     {
@@ -69,7 +69,7 @@ pub fn each_name_is_sought()
     ensures { (test : LitmusTest) (name : ℕ) → name < length test.names.items → IsSome (named_request_of test name) }
 {}
 
-// How many of the steps are accesses to words of the slice.
+// Returns the number of steps that are accesses to words of the slice.
 fn count_in(config: &Checked, slice: SliceId, steps: &[Action]) -> u64
     ensures { result ≡ length (requests_in config.now slice.0 steps.now) }
 {

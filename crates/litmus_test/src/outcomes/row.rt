@@ -3,7 +3,7 @@ ghost use Rattle.litmus_test.specs.Table.{RowView};
 
 use std::marker::Model;
 
-/// An outcome that came.
+/// An outcome that occurred.
 #[derive(Debug, Drop)]
 pub struct Row {
     values: Vec<u64>,
@@ -18,7 +18,7 @@ impl Model for Row {
 }
 
 impl Row {
-    /// An outcome that came in so many rounds, in this one first.
+    /// Creates the row of an outcome of `rounds` rounds, with `first` the first of them.
     pub(crate) fn new(values: Vec<u64>, rounds: u64, first: u64) -> Self
         ensures { result ≡ record { values = values.items; rounds = rounds; first = first } }
     {
@@ -29,28 +29,28 @@ impl Row {
         }
     }
 
-    /// The values of the names, and then those of the counters.
+    /// Returns the values of the names, and then those of the counters.
     pub fn values(&self) -> &[u64]
         ensures { result.now ≡ self.now.values }
     {
         &self.values
     }
 
-    /// How many rounds had it.
+    /// Returns the number of rounds that had it.
     pub fn rounds(&self) -> u64
         ensures { result ≡ self.now.rounds }
     {
         self.rounds
     }
 
-    /// The first round that had it, from 0.
+    /// Returns the first round that had it, from 0.
     pub fn first(&self) -> u64
         ensures { result ≡ self.now.first }
     {
         self.first
     }
 
-    /// It came in so many more rounds.
+    /// Counts `rounds` more rounds.
     pub(crate) fn come_again(&mut self, rounds: u64)
         requires { self.old.rounds + rounds < 2 ^ 64 }
         ensures { self.new ≡ record self.old { rounds = self.old.rounds + rounds } }

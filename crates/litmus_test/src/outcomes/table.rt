@@ -10,12 +10,12 @@ use crate::LitmusTest;
 use std::alloc::{AllocError, Global};
 use std::marker::Model;
 
-/// How often each outcome came in the rounds so far.
+/// How often each outcome occurred in the rounds so far.
 #[derive(Debug, Drop)]
 pub struct Outcomes {
     alloc: Global,
     rows: Vec<Row>,
-    /// How many rounds there were.
+    /// The number of rounds.
     rounds: u64,
 }
 
@@ -30,7 +30,7 @@ impl Model for Outcomes {
 }
 
 impl Outcomes {
-    /// The table of no rounds.
+    /// Creates the table of no rounds.
     pub fn new(alloc: Global) -> Self
         ensures { IsTableOf [] result }
     {
@@ -41,7 +41,7 @@ impl Outcomes {
         }
     }
 
-    /// Counts the outcome of one more round. Takes memory only for an outcome that hasn't come before.
+    /// Counts the outcome of one more round. Allocates only for an outcome that hasn't occurred before.
     pub fn add(&mut self, values: &[u64]) -> Result<(), AllocError>
         requires { self.old.rounds + 1 < 2 ^ 64 }
         ensures ok { OnOk result
@@ -53,8 +53,8 @@ impl Outcomes {
         self.count(values, 1, self.rounds)
     }
 
-    /// Counts so many more rounds of an outcome, of which `first` is the first. Takes memory only for an outcome that
-    /// hasn't come before.
+    /// Counts `rounds` more rounds of an outcome, with `first` the first of them. Allocates only for an outcome that
+    /// hasn't occurred before.
     pub fn count(&mut self, values: &[u64], rounds: u64, first: u64) -> Result<(), AllocError>
         requires { self.old.rounds + rounds < 2 ^ 64 }
         ensures ok { OnOk result
@@ -73,7 +73,7 @@ impl Outcomes {
         Ok(())
     }
 
-    /// The same, where so many rounds more can be counted. Returns whether they can.
+    /// The same, if `rounds` more rounds can be counted. Returns whether they can.
     pub fn try_count(&mut self, values: &[u64], rounds: u64, first: u64) -> Result<bool, AllocError>
         ensures counted { IfOk result (λ counted. IsTrue counted
             → Counts (record { values = values.now; rounds = rounds; first = first }) self.old self.new) }
@@ -87,21 +87,21 @@ impl Outcomes {
         Ok(true)
     }
 
-    /// How many rounds there are.
+    /// Returns the number of rounds.
     pub fn rounds(&self) -> u64
         ensures { result ≡ self.now.rounds }
     {
         self.rounds
     }
 
-    /// Counts the rounds of another table too, whose round 0 is the round of this number here. At `Err` some of its rows
-    /// may be counted.
+    /// Also counts the rounds of another table, whose round 0 is round `from` here. If it returns `Err` some of them may
+    /// be counted.
     pub fn append(&mut self, from: u64, other: &Outcomes) -> Result<(), AllocError>
         requires { self.old.rounds + other.now.rounds < 2 ^ 64 }
         // The other's rounds come after those of this one.
         ensures behind { OnOk result ((rounds more : List (List ℕ)) → from ≡ length rounds
             → IsTableOf rounds self.old → IsTableOf more other.now → IsTableOf (rounds ++ more) self.new) }
-        // Also where rounds between the two are missing.
+        // Also if rounds between the two are missing.
         ensures both { OnOk result (IsBoth from self.old other.now self.new) }
     {
         let _ = &self.alloc;
@@ -112,7 +112,7 @@ impl Outcomes {
         Ok(())
     }
 
-    /// A row for each outcome that came, ascending by its values. No round is lost or counted twice.
+    /// Returns a row for each outcome that occurred, ascending by values. No round is lost or counted twice.
     pub fn rows(&self) -> &[Row]
         ensures rows { result.now ≡ self.now.rows }
         ensures sound { IsSound self.now.rows self.now.rounds }
@@ -120,7 +120,7 @@ impl Outcomes {
         &self.rows
     }
 
-    /// How many rounds had a forbidden outcome.
+    /// Returns the number of rounds that had a forbidden outcome.
     pub fn forbidden(&self, test: &LitmusTest<'_>) -> u64
         ensures { (rounds : List (List ℕ)) → IsTableOf rounds self.now
             → result ≡ count_by (is_forbidden test.now) rounds }
@@ -134,7 +134,7 @@ impl Outcomes {
         count
     }
 
-    // Where the row of an outcome is, or where it would go.
+    // Returns the place of an outcome's row, or the place where it would go.
     fn search(&self, values: &[u64]) -> Result<usize, usize>
         ensures found { IfOk result (IsPlaceOf self.now.rows values.now) }
         ensures absent { IfErr result (IsGapFor self.now.rows values.now) }
@@ -143,7 +143,7 @@ impl Outcomes {
     }
 }
 
-// Puts the row of an outcome at its place, which hasn't come before.
+// Inserts the row of a new outcome at its place.
 fn insert_row(
     alloc: Global,
     rows: &mut Vec<Row>,
@@ -163,7 +163,7 @@ fn insert_row(
     Ok(())
 }
 
-/// Rounds have one table alone.
+/// Rounds have exactly one table.
 pub fn one_table()
     ensures { (rounds : List (List ℕ)) (a b : TableView) → IsTableOf rounds a → IsTableOf rounds b → a ≡ b }
 {}

@@ -11,8 +11,8 @@ use address_map::WordAddr;
 use std::{fmt, str};
 
 /// Writes the table: a line for each outcome, ascending, and a last line with how many rounds had a forbidden outcome.
-/// Where the seed of round 0 is given, each outcome's line has the seed of its first round. A name that is no text
-/// isn't written: that is an error, as where the writer has one.
+/// If the seed of round 0 is given, each outcome's line has the seed of its first round. A name that is no text isn't
+/// written: that is an error, like one of the writer.
 pub fn write_table<W: fmt::Write>(
     test: &LitmusTest<'_>,
     outcomes: &Outcomes,
@@ -59,7 +59,7 @@ fn write_row<W: fmt::Write>(
     writeln!(out)
 }
 
-// The values after those of so many names.
+// Returns the values after those of `names` names.
 fn values_behind(names: usize, values: &[u64]) -> &[u64]
     ensures { result.now ≡ drop names values.now }
 {

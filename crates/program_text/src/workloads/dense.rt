@@ -1,4 +1,4 @@
-//! Matrices and grids, whose rows stand one after another.
+//! Matrices and grids, stored row by row.
 ghost use Rattle.std.specs.Prelude.{◌<◌, ◌≤◌};
 
 use super::text::{WORDS, lines_of, push_line, push_loads, push_machine};

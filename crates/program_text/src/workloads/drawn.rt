@@ -33,7 +33,7 @@ pub(crate) fn push_chase(
     Ok(())
 }
 
-// The numbers below one, in an order that is drawn.
+// Returns the numbers below `size`, in an order that is drawn.
 fn shuffled(alloc: Global, size: u64, seed: u64) -> Result<Vec<u64>, AllocError> {
     let mut order = Vec::new(alloc);
     for line in 0..size {
@@ -72,7 +72,7 @@ pub(crate) fn push_uniform(
     Ok(())
 }
 
-/// Each core loads words of lines of which line n is drawn as often as 1 / (n + 1) says, and stores to every fourth.
+/// Each core loads words of drawn lines, line n as often as 1 / (n + 1) says, and stores to every fourth.
 pub(crate) fn push_zipf(
     alloc: Global,
     text: &mut Vec<u8>,
@@ -90,7 +90,7 @@ pub(crate) fn push_zipf(
     Ok(())
 }
 
-// Accesses to lines whose weights end there, or to any line where no weights are given.
+// Adds accesses to lines whose weights end there, or to any line where no weights are given.
 fn push_draws(
     text: &mut Vec<u8>,
     generator: &mut Xoshiro256PlusPlus,
@@ -111,7 +111,7 @@ fn push_draws(
     Ok(())
 }
 
-// The line that a word of the generator draws.
+// Returns the line that a word of the generator draws.
 fn drawn_line(word: u64, ends: &[u64]) -> u64 {
     let Some(all) = ends.last() else {
         return word % LINES;
@@ -123,7 +123,7 @@ fn drawn_line(word: u64, ends: &[u64]) -> u64 {
     }
 }
 
-// Where the weight of each line ends, if they stand one after another.
+// Returns where the weight of each line ends, if they are laid end to end.
 fn zipf_ends(alloc: Global) -> Result<Vec<u64>, AllocError> {
     let mut ends = Vec::new(alloc);
     let mut end: u64 = 0;

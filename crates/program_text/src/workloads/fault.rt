@@ -22,7 +22,7 @@ pub enum GenerateFault {
 }
 
 impl GenerateFault {
-    /// The exit status of a program that stops at this fault.
+    /// Returns the exit status of a program that stops at this fault.
     pub const fn status(&self) -> u8 {
         match self {
             GenerateFault::NoMemory => 3,

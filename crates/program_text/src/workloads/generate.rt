@@ -34,7 +34,7 @@ pub fn write_workload<W: Write>(
     }
 }
 
-// The text of a workload that the reader takes.
+// Returns the text of a workload that the reader takes.
 fn generate(alloc: Global, workload: Workload, size: Size) -> Result<Vec<u8>, GenerateFault>
     requires { size.cores ≤ 64 }
     ensures { IfOk result (λ text. IsWorkload text.items) }

@@ -26,7 +26,7 @@ pub(crate) fn push_loads(text: &mut Vec<u8>, first: u64, last: u64) -> Result<()
     text.extend_from_slice(b"\n")
 }
 
-/// Adds the lines of a machine with so many cores and lines.
+/// Adds the lines of a machine with `cores` cores and `lines` lines.
 pub(crate) fn push_machine(text: &mut Vec<u8>, cores: u64, lines: u64) -> Result<(), AllocError> {
     push_line(text, "cores", &[cores])?;
     push_line(text, "lines", &[lines])?;
@@ -39,7 +39,7 @@ fn push_number(text: &mut Vec<u8>, number: u64) -> Result<(), AllocError> {
     text.extend_from_slice(buffer.format(number).as_bytes())
 }
 
-/// How many lines so many words take.
+/// Returns how many lines `words` words take.
 pub(crate) fn lines_of(words: u64) -> u64
     ensures { result ≤ words }
 {

@@ -24,7 +24,7 @@ pub struct Size {
 }
 
 impl Workload {
-    /// The workload of this name.
+    /// Returns the workload of this name.
     pub fn named(name: &str) -> Option<Workload> {
         match name {
             "matmul" => Some(Workload::Matmul),

@@ -38,7 +38,7 @@ impl fmt::Display for EntryTitle {
     }
 }
 
-/// An entry in the queries: its state, who owns the line, whether who asks shares it, and whether others do.
+/// An entry in the queries: its state, who owns the line, whether the requester shares it, and whether others do.
 #[derive(Clone, Copy)]
 struct EntryTerm(Entry);
 
@@ -265,7 +265,7 @@ impl fmt::Display for Step {
     }
 }
 
-/// Writes that the entry looks like one of those of which there are queries.
+/// Writes that the entry looks like one of those that have queries.
 pub fn write_entries<W: Write>(out: &mut W) -> fmt::Result
     ensures { OnOk result (WritesInCalls W.write_str_gives out.old entry_terms out.new) }
 {

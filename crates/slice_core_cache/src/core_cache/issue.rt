@@ -23,7 +23,7 @@ impl<F: MissFile> CoreCache<F> {
     ghost use Rattle.slice_core_cache.specs.Access.{access_of, alone_of, CanStand, IsAlone, IsWithin};
     ghost use Rattle.slice_core_cache.specs.Steps.{after_hit, after_join, after_open, target_of};
 
-    /// What is to be done with an access to a line.
+    /// Returns what is to be done with an access to a line.
     pub fn decide(&self, local: Local, tag: u8, op: Op) -> AccessKind
         requires { tag < 64 }
         ensures decided { result ≡ access_of self.now local tag op }

@@ -30,7 +30,7 @@ pub struct CopyLook {
 impl<F: MissFile> CoreCache<F> {
     ghost use Rattle.slice_core_cache.specs.CoreCache.{copy_of, leaving_lines};
 
-    /// The core's copy of a line but for its block. It is in the array, or in the write-back buffer, or nowhere.
+    /// Returns the core's copy of a line without its block. It is in the array, in the write-back buffer, or nowhere.
     pub fn look(&self, local: Local) -> CopyLook
         ensures way { result.way ≡ position (holds local) (slots_at self.now.array local) }
         ensures state { result.state ≡ (copy_of self.now local).state }
@@ -58,7 +58,7 @@ impl<F: MissFile> CoreCache<F> {
         }
     }
 
-    /// The block of the core's copy, wherever it is.
+    /// Returns the block of the core's copy, wherever it is.
     pub fn block(&self, local: Local) -> &Block
         requires { IsSome (array_at self.now.array local) ⊎ IsSome (buffer_at self.now.buffer.write_backs local.0) }
         ensures { result.now ≡ (copy_of self.now local).block }
@@ -72,28 +72,28 @@ impl<F: MissFile> CoreCache<F> {
         }
     }
 
-    /// The accesses that wait for the line, the oldest first.
+    /// Returns the accesses that wait for the line, the oldest first.
     pub fn targets(&self, local: Local) -> ArrayVec<Target, 64>
         ensures { result.items ≡ targets_of self.now.misses local.0 }
     {
         self.file.targets(local)
     }
 
-    /// The lines that accesses wait for, in the order of their miss registers.
+    /// Returns the lines that accesses wait for, in the order of their miss registers.
     pub fn waited(&self, alloc: Global) -> Result<Vec<Local>, AllocError>
         ensures { IfOk result (λ lines. lines.items ≡ waited_lines self.now.misses) }
     {
         self.file.lines(alloc)
     }
 
-    /// The lines in the write-back buffer, the latest last.
+    /// Returns the lines in the write-back buffer, the latest last.
     pub fn leaving(&self, alloc: Global) -> Result<Vec<Local>, AllocError>
         ensures { IfOk result (λ lines. lines.items ≡ leaving_lines self.now) }
     {
         lines_of_write_backs(alloc, self.buffer.write_backs())
     }
 
-    /// The line that the write-back buffer took in last.
+    /// Returns the line that the write-back buffer took in last.
     pub fn last_written_back(&self) -> Option<Local>
         ensures { result ≡ slice_get (leaving_lines self.now) (length (leaving_lines self.now) - 1) }
     {
@@ -103,7 +103,7 @@ impl<F: MissFile> CoreCache<F> {
         }
     }
 
-    /// The lines that the array holds in the set of this one, in the order of their slots.
+    /// Returns the lines that the array holds in the set of this one, in the order of their slots.
     pub fn in_set_of(&self, alloc: Global, local: Local) -> Result<Vec<Local>, AllocError>
         ensures { IfOk result (λ lines. lines.items ≡ lines_at self.now.array local) }
     {

@@ -18,7 +18,7 @@ impl<F: MissFile> CoreCache<F> {
     ghost use Rattle.slice_core_cache.specs.CoreCache.{array_copy};
     ghost use Rattle.slice_core_cache.specs.Steps.{copy_after_ack, after_advance, after_change, after_settle, copy_after_fill};
 
-    /// A message took the copy to the next state, in which nothing is performed.
+    /// Takes the copy to the next state after a message; nothing is performed in that state.
     pub fn advance(&mut self, local: Local, next: CopyState)
         requires { IsSome (array_at self.old.array local) ⊎ IsSome (buffer_at self.old.buffer.write_backs local.0) }
         ensures { self.new ≡ after_advance self.old local next }
@@ -36,7 +36,7 @@ impl<F: MissFile> CoreCache<F> {
         }
     }
 
-    /// The copy gets the data that came, which named `wants` acknowledgements, and goes to the next state.
+    /// Gives the copy the data that came, which named `wants` acknowledgements, and takes it to the next state.
     pub fn fill(&mut self, local: Local, way: usize, block: &Block, wants: u8, next: CopyState)
         requires { position (holds local) (slots_at self.old.array local) ≡ Some way }
         ensures { self.new ≡ after_change self.old local (copy_after_fill (array_copy self.old local) block.now wants next) }
@@ -47,7 +47,7 @@ impl<F: MissFile> CoreCache<F> {
         copy.state = next;
     }
 
-    /// The copy counts one more acknowledgement, and goes to the next state.
+    /// Counts one more acknowledgement for the copy, and takes it to the next state.
     pub fn acknowledge(&mut self, local: Local, way: usize, next: CopyState)
         requires { position (holds local) (slots_at self.old.array local) ≡ Some way }
         ensures { self.new ≡ after_change self.old local (copy_after_ack (array_copy self.old local) next) }

@@ -53,7 +53,7 @@ impl<F: MissFile> Parts<F> {
 }
 
 impl<F: MissFile> Parts<F> {
-    /// The same slice, in memory of its own.
+    /// Returns a copy of the slice, in memory of its own.
     pub fn try_clone(&self, alloc: Global) -> Result<Self, AllocError>
         ensures { IfOk result (λ copy. copy ≡ self.now) }
     {

@@ -23,7 +23,7 @@ use slice_log::Entry;
 use slice_queues::{Channel, Message, RequestMessage};
 
 impl<F: MissFile> Parts<F> {
-    /// Accepts a request, or says why not. The log grows before anything changes, so that nothing later takes memory.
+    /// Accepts a request, or says why not. The log grows before anything changes, so that nothing later allocates.
     pub fn issue(&mut self, core: CoreId, request: Request) -> Result<Issue, Refused>
         requires { CanIssue self.old core }
         ensures step { AfterIssue self.old core request result self.new }
@@ -42,7 +42,7 @@ impl<F: MissFile> Parts<F> {
         }
     }
 
-    /// What is to be done with the request, in the order in which it is judged.
+    /// Returns what is to be done with the request, in the order in which it is judged.
     pub fn decide(&self, core: CoreId, request: Request) -> Decision
         requires { core.0 < length self.now.view.caches }
         ensures decided { result ≡ decision_of self.now.view core request }

@@ -19,7 +19,7 @@ use slice_queues::{Channel, LineWaiting, Message, Picks};
 use std::alloc::{AllocError, Global};
 
 impl<F: MissFile> Parts<F> {
-    /// What the slice has of a line.
+    /// Returns what the slice has of a line.
     pub fn line_view(&self, local: Local) -> LineView
         requires line { local.0 < length self.now.view.entries }
         requires cores { length self.now.view.caches ≤ 64 }
@@ -77,7 +77,7 @@ impl<F: MissFile> Parts<F> {
         }
     }
 
-    /// The line that the core's write-back buffer took in last.
+    /// Returns the line that the core's write-back buffer took in last.
     pub fn last_written_back(&self, core: CoreId) -> Option<LineAddr>
         requires core { core.0 < length self.now.view.caches }
         requires own { All (λ local. local.0 < self.now.view.lines.lines)
@@ -88,7 +88,7 @@ impl<F: MissFile> Parts<F> {
         Some(self.lines.line_at(local))
     }
 
-    /// The oldest message in a channel of a line. `None` too where the channel names a core that isn't there.
+    /// Returns the oldest message in a channel of a line. `None` too where the channel names a core that isn't there.
     pub fn front(&self, local: Local, channel: Channel) -> Option<Message>
         requires { local.0 < length self.now.view.channels }
         ensures { result ≡ slice_get (messages_at (channels_at self.now.view local) channel) 0 }
@@ -108,7 +108,7 @@ impl<F: MissFile> Parts<F> {
         }
     }
 
-    /// The picks with a message, each once and no other, from the first line to the last.
+    /// Returns the picks with a message, each once and no other, from the first line to the last.
     pub fn waiting(&self) -> Picks<'_>
         requires { IsShaped self.now.view }
         ensures order { result ≡ lines_waiting self.now.view.lines.slice self.now.view.lines.slices 0
@@ -118,7 +118,7 @@ impl<F: MissFile> Parts<F> {
         self.queues.picks_of(self.lines)
     }
 
-    /// The channels of a line in which a message waits, each once and no other.
+    /// Returns the channels of a line in which a message waits, each once and no other.
     pub fn waiting_at(&self, local: Local) -> LineWaiting<'_>
         requires { local.0 < length self.now.view.channels }
         ensures order { result ≡ line_waiting (channels_at self.now.view local) }
@@ -135,8 +135,8 @@ impl<F: MissFile> Parts<F> {
         self.queues.is_empty() && are_quiet(&self.caches)
     }
 
-    /// The word at a place of a line of a quiet slice: the owner's copy has it where there is an owner, else the home
-    /// copy.
+    /// Returns the word at a place of a line of a quiet slice: the owner's copy has it where there is an owner, else
+    /// the home copy.
     pub fn word_now(&self, local: Local, offset: Offset) -> u64
         requires line { local.0 < length self.now.view.entries }
         requires within { offset.0 < 8 }

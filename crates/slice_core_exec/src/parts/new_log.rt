@@ -14,8 +14,8 @@ use std::alloc::{AllocError, Global};
 use std::boxed::BoxedSlice;
 
 impl<F: MissFile> Parts<F> {
-    /// Begins a new log: each word begins with the value that it has, and what is counted begins at 0. Where memory is
-    /// lacking nothing changes.
+    /// Begins a new log: each word begins with the value that it has, and what is counted begins at 0. Where an
+    /// allocation fails nothing changes.
     pub fn begin_log(&mut self, alloc: Global) -> Result<(), AllocError>
         requires shaped { IsShaped self.old.view }
         requires owned { (local : Local) → local.0 < self.old.view.lines.lines → IsOwned self.old.view local }

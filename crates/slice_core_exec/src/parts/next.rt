@@ -70,8 +70,8 @@ impl<F: MissFile> Parts<F> {
         next
     }
 
-    /// What is to be delivered next of the class: [`Parts::deliver_next`] delivers it. It looks at the same lines, and
-    /// turns none.
+    /// Returns what is to be delivered next of the class: [`Parts::deliver_next`] delivers it. It looks at the same
+    /// lines, and turns none.
     pub fn next(&self, class: Class) -> Delivery<Pick>
         requires { IsShaped self.now.view }
         ensures next { result ≡ next_pick self.now class }

@@ -21,7 +21,7 @@ use slice_core_spec::{
 use slice_queues::{Channel, DataMessage, Pick};
 
 impl<F: MissFile> Parts<F> {
-    /// What is to be done with the message in front of a pick: a delivery there does it.
+    /// Returns what is to be done with the message in front of a pick: a delivery there does it.
     pub fn plan_at(&self, pick: Pick) -> Plan
         requires { IsShaped self.now.view }
         ensures { result ≡ planned_at self.now.view pick }
@@ -32,7 +32,7 @@ impl<F: MissFile> Parts<F> {
         }
     }
 
-    /// What is to be done at the front of a channel of a line.
+    /// Returns what is to be done at the front of a channel of a line.
     pub(super) fn plan(&self, local: Local, channel: Channel) -> Plan
         requires line { local.0 < self.now.view.lines.lines }
         requires shaped { IsShaped self.now.view }

@@ -5,7 +5,7 @@ use directory_table::DirState;
 use slice_queues::Message;
 use std::fmt;
 
-/// Who does a row of the tables, and in which state its entry or its copy of the line is.
+/// Who does a row of the tables, and the state of its entry or its copy of the line.
 #[derive(Clone, Copy)]
 pub enum Who {
     /// The directory of a slice.
@@ -13,7 +13,7 @@ pub enum Who {
     Core { core: CoreId, state: CopyState },
 }
 
-/// What comes to it.
+/// What happens to it.
 #[derive(Clone, Copy)]
 pub enum Event {
     Message(Message),

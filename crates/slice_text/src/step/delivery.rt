@@ -6,11 +6,11 @@ use address_map::CoreId;
 use slice_core_spec::{Plan, Transition};
 use std::fmt;
 
-/// A delivery: the case that the message in front of a channel met, what was planned for it, and what was done of that.
+/// A delivery: the case that the message at the front of a channel met, what was planned for it, and what was done.
 #[derive(Clone, Copy)]
 pub struct ExplainedDelivery {
     pub slice: usize,
-    /// The core whose request it is, where the directory takes one.
+    /// The core whose request it is, if the directory takes one.
     pub core: CoreId,
     pub case: Case,
     pub plan: Plan,
@@ -63,7 +63,7 @@ impl fmt::Display for Effects {
     }
 }
 
-/// A message that is moved: the state that follows, and what is done besides.
+/// A message that is moved: the state that follows, and what else is done.
 #[derive(Clone, Copy)]
 struct Moved {
     slice: usize,

@@ -119,14 +119,14 @@ impl fmt::Display for BlockHome {
     }
 }
 
-/// What a core that takes data or an acknowledgement does besides: the accesses that it performs are those from this
-/// number in the log up to the one before the end, and what it then asks of the directory.
+/// What else a core that takes data or an acknowledgement does: the accesses that it performs, which are those from
+/// this number in the log up to the one before the end, and what it then requests from the directory.
 #[derive(Clone, Copy)]
 pub struct Done {
     pub first: usize,
     pub end: usize,
     pub asked: Option<Message>,
-    /// The state in which its copy is at last.
+    /// The final state of its copy.
     pub state: CopyState,
 }
 
@@ -179,14 +179,14 @@ impl fmt::Display for AskedOfDirectory {
     }
 }
 
-/// What is said of a block that comes along and becomes the home copy.
+/// Returns the text for a block that is carried along and becomes the home copy.
 pub(crate) const fn home(writes_home: bool) -> &'static str
     ensures { result.now ≡ text_of_home writes_home }
 {
     if writes_home { "; block home" } else { "" }
 }
 
-/// Why a message can't be taken.
+/// Returns why a message can't be taken.
 pub(crate) const fn broken(cell: Cell) -> &'static str
     ensures { result.now ≡ text_of_broken cell }
 {
@@ -197,7 +197,7 @@ pub(crate) const fn broken(cell: Cell) -> &'static str
     }
 }
 
-/// What an entry or a copy in its state waits for.
+/// Returns what an entry or a copy in its state waits for.
 pub(crate) const fn awaited(who: Who) -> &'static str
     ensures { result.now ≡ text_of_awaited who }
 {

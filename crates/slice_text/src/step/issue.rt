@@ -14,7 +14,7 @@ use slice_queues::Message;
 use std::fmt;
 
 impl Event {
-    /// The event of the table that an access is.
+    /// Returns the event of the table for an access.
     pub const fn of(op: Op) -> Self
         ensures { result ≡ event_of op }
     {
@@ -114,7 +114,7 @@ impl fmt::Display for Reason {
     }
 }
 
-/// What a miss asks the directory for.
+/// Returns the name of a miss's request to the directory.
 const fn name_of(ask: Ask) -> &'static str
     ensures { result.now ≡ text_of_ask ask }
 {
@@ -124,14 +124,14 @@ const fn name_of(ask: Ask) -> &'static str
     }
 }
 
-/// What is said of a write to an exclusive copy, of which nobody is told.
+/// Returns the text for a write to an exclusive copy, for which no message is sent.
 const fn said_of_silent(silent: bool) -> &'static str
     ensures { result.now ≡ text_of_silent silent }
 {
     if silent { "; silent" } else { "" }
 }
 
-/// What an access has to wait for.
+/// Returns what an access has to wait for.
 const fn shortage(stall: Stall) -> &'static str
     ensures { result.now ≡ text_of_shortage stall }
 {
@@ -144,7 +144,7 @@ const fn shortage(stall: Stall) -> &'static str
     }
 }
 
-/// An eviction that a core asked for: the case that it meets, its answer, and the copy's state and the message that is
+/// An eviction that a core requested: the case that it meets, its answer, and the copy's state and the message that is
 /// sent after it.
 #[derive(Clone, Copy)]
 pub struct Eviction {

@@ -2,7 +2,7 @@ use address_map::{CoreId, Op, WordAddr};
 use slice_log::Entry;
 use std::fmt;
 
-/// An access that was performed: whose, which of the core's requests, and in a script's words what it asked for.
+/// An access that was performed: its core, which of the core's requests it was, and the access as a script writes it.
 #[derive(Clone, Copy)]
 pub struct Performed(pub Entry);
 
@@ -23,7 +23,7 @@ impl fmt::Display for Performed {
     }
 }
 
-/// What an access asks for, in a script's words.
+/// An access as a script writes it.
 #[derive(Clone, Copy)]
 pub struct Asked {
     pub word: WordAddr,

@@ -1,6 +1,6 @@
 use Rattle.std.proofs.Common.{◌∙◌, refl}
 use Rattle.litmus_rounds.specs.PartForm.{line_of}
-use Rattle.litmus_rounds.proofs.PieceLemmas.{last_pieces, next_pieces}
+use Rattle.litmus_text.proofs.Pieces.{last_pieces, next_pieces}
 use Rattle.litmus_rounds.proofs.part_form.push_lines.Goals as goal
 
 pub loop-row-preserved : goal.loop-row-preserved

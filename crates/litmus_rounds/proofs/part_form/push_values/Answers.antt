@@ -1,6 +1,6 @@
 use Rattle.std.proofs.Common.{◌∙◌, refl}
 use Rattle.litmus_rounds.specs.PartForm.{value_of}
-use Rattle.litmus_rounds.proofs.PieceLemmas.{last_pieces, next_values}
+use Rattle.litmus_text.proofs.Pieces.{last_pieces, next_values}
 use Rattle.litmus_rounds.proofs.part_form.push_values.Goals as goal
 
 pub loop-value-preserved : goal.loop-value-preserved

@@ -1,6 +1,6 @@
 use Rattle.std.proofs.Common.{◌∙◌, refl}
 use Rattle.litmus_rounds.specs.PartForm.{text_of_part}
-use Rattle.litmus_rounds.proofs.PieceLemmas.{last_pieces, next_pieces}
+use Rattle.litmus_text.proofs.Pieces.{last_pieces, next_pieces}
 use Rattle.litmus_rounds.proofs.part_read.push_parts.Goals as goal
 
 pub loop-part-preserved : goal.loop-part-preserved

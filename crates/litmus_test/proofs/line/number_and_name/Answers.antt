@@ -5,7 +5,7 @@ use Rattle.litmus_text.specs.Number.{IsNumber}
 use Rattle.litmus_test.proofs.line.number_and_name.Goals as goal
 
 module _ {X : Type 0} (text : X → List ℕ) where
-  -- what so many words write, by what each is
+  -- what two words write, by what each is
   written : (words : List X) (d : X) (n : ℕ) (name : List ℕ) → 2 ≤ length words → length words < 3
       → IsNumber (text (get_or words 0 d)) × (n ≡ digits_value 10 (text (get_or words 0 d)))
       → name ≡ text (get_or words 1 d) → Writes (map text words) (num n ∷ key name ∷ [])

@@ -5,7 +5,7 @@ use Rattle.litmus_text.specs.Number.{IsNumber}
 use Rattle.litmus_test.proofs.line.three_numbers_and_name.Goals as goal
 
 module _ {X : Type 0} (text : X → List ℕ) where
-  -- what so many words write, by what each is
+  -- what four words write, by what each is
   written : (words : List X) (d : X) (n m k : ℕ) (name : List ℕ) → 4 ≤ length words → length words < 5
       → IsNumber (text (get_or words 0 d)) × (n ≡ digits_value 10 (text (get_or words 0 d)))
       → IsNumber (text (get_or words 1 d)) × (m ≡ digits_value 10 (text (get_or words 1 d)))

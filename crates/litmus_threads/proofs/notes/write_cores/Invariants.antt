@@ -4,7 +4,7 @@ use Rattle.litmus_threads.proofs.Lines.{numbers_from}
 use Rattle.litmus_threads.specs.Trace.{text_of_core}
 use Rattle.litmus_threads.proofs.notes.write_cores.Given as goal
 
--- who writes the lines of the cores that are left has written all
+-- after the lines of the remaining cores all are written
 abbrev pub invariant-loop-core : goal.invariant-loop-core
 invariant-loop-core g l =
     let took = g.W.Write.write_str_gives in

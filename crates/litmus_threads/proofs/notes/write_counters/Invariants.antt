@@ -3,7 +3,7 @@ use Rattle.std.specs.Fmt.{WritesInCalls}
 use Rattle.litmus_threads.specs.Trace.{text_of_counters}
 use Rattle.litmus_threads.proofs.notes.write_counters.Given as goal
 
--- who writes the lines of the counters that are left has written all
+-- after the lines of the remaining counters all are written
 abbrev pub invariant-loop-counter : goal.invariant-loop-counter
 invariant-loop-counter g l =
     let took = g.W.Write.write_str_gives in

@@ -6,7 +6,7 @@ use Rattle.murphi_trace.specs.Replay.{AreTags}
 use Rattle.murphi_trace.specs.Script.{steps_in, text_of_steps}
 use Rattle.murphi_trace.proofs.replay.write_steps.Given as goal
 
--- some rules came before, and who writes the steps that are left behind them has written all
+-- some rules came before, and once the steps that are left are written after them, all are
 abbrev pub invariant-loop-line : goal.invariant-loop-line
 invariant-loop-line g l =
     let contents = g.W.Write.contents in

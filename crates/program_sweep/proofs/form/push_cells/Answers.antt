@@ -1,6 +1,6 @@
 use Rattle.std.proofs.Common.{◌∙◌, refl}
 use Rattle.program_sweep.specs.Form.{cell_of}
-use Rattle.program_sweep.proofs.RowLemmas.{last_pieces, next_values}
+use Rattle.litmus_text.proofs.Pieces.{last_pieces, next_values}
 use Rattle.program_sweep.proofs.form.push_cells.Goals as goal
 
 pub loop-cell-preserved : goal.loop-cell-preserved

@@ -1,6 +1,6 @@
 use Rattle.std.proofs.Common.{◌∙◌, refl}
 use Rattle.program_sweep.specs.Text.{line_of_setting}
-use Rattle.program_sweep.proofs.RowLemmas.{last_pieces, next_pieces}
+use Rattle.litmus_text.proofs.Pieces.{last_pieces, next_pieces}
 use Rattle.program_sweep.proofs.text.lines_of_settings.Goals as goal
 
 pub loop-setting-preserved : goal.loop-setting-preserved

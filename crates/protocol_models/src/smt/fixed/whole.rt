@@ -61,7 +61,7 @@ pub const BEGINNING: &str = "\
 
 ";
 
-/// Each request finds an entry of which there are rows, and Data and an Inv-Ack one of their cases.
+/// Each request finds an entry that has rows, and Data and an Inv-Ack one of their cases.
 pub const COVERAGE: &str = "\
 ; ---- No case is left out
 

@@ -4,7 +4,7 @@ use Rattle.slice_json.specs.Access.{text_of_target}
 use Rattle.litmus_text.specs.JsonList.{with_commas, with_commas_from}
 use Rattle.slice_json.proofs.access.write_each_target.Given as goal
 
--- who writes the targets that are left has written all
+-- after the remaining targets all are written
 abbrev pub invariant-loop-target : goal.invariant-loop-target
 invariant-loop-target g l =
     let took = g.W.Write.write_str_gives in

@@ -4,7 +4,7 @@ use Rattle.slice_json.specs.Access.{list_of_entries, text_of_entry}
 use Rattle.litmus_text.specs.JsonList.{with_commas_from}
 use Rattle.slice_json.proofs.access.write_entries.Given as goal
 
--- who writes the entries that are left has written all
+-- after the remaining entries all are written
 abbrev pub invariant-loop-number : goal.invariant-loop-number
 invariant-loop-number g l =
     let took = g.W.Write.write_str_gives in

@@ -4,7 +4,7 @@ use Rattle.std.specs.List.{flat_map}
 use Rattle.slice_json.specs.Json.{text_of_byte}
 use Rattle.slice_json.proofs.json.write_bytes.Given as goal
 
--- who writes the bytes that are left has written all
+-- after the remaining bytes all are written
 abbrev pub invariant-loop-byte : goal.invariant-loop-byte
 invariant-loop-byte g l =
     let took = g.W.Write.write_str_gives in

@@ -4,7 +4,7 @@ use Rattle.litmus_text.specs.JsonList.{with_commas, with_commas_from}
 use Rattle.slice_json.specs.Json.{text_of_line_number}
 use Rattle.slice_json.proofs.json.write_numbers.Given as goal
 
--- who writes the lines that are left has written all
+-- after the remaining lines all are written
 abbrev pub invariant-loop-line : goal.invariant-loop-line
 invariant-loop-line g l =
     let took = g.W.Write.write_str_gives in

@@ -4,7 +4,7 @@ use Rattle.litmus_text.specs.JsonList.{with_commas, with_commas_from}
 use Rattle.slice_json.specs.Json.{text_of_value}
 use Rattle.slice_json.proofs.json.write_words.Given as goal
 
--- who writes the words that are left has written all
+-- after the remaining words all are written
 abbrev pub invariant-loop-word : goal.invariant-loop-word
 invariant-loop-word g l =
     let took = g.W.Write.write_str_gives in

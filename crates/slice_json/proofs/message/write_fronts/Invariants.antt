@@ -4,7 +4,7 @@ use Rattle.litmus_text.specs.JsonList.{with_commas, with_commas_from}
 use Rattle.slice_json.specs.Message.{text_at}
 use Rattle.slice_json.proofs.message.write_fronts.Given as goal
 
--- who writes the messages that are left has written all
+-- after the remaining messages all are written
 abbrev pub invariant-loop-channel : goal.invariant-loop-channel
 invariant-loop-channel g l =
     let took = g.W.Write.write_str_gives in

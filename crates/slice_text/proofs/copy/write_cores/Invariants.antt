@@ -5,7 +5,7 @@ use Rattle.std.proofs.Common.{length}
 use Rattle.slice_text.specs.Shown.{text_of_core}
 use Rattle.slice_text.proofs.copy.write_cores.Given as goal
 
--- who writes those that are left has written all
+-- after the remaining ones all are written
 abbrev pub invariant-loop-core : goal.invariant-loop-core
 invariant-loop-core g l =
     let took = g.W.Write.write_str_gives in

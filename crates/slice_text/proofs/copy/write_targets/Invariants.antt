@@ -3,7 +3,7 @@ use Rattle.std.specs.Fmt.{WritesInCalls}
 use Rattle.slice_text.specs.Shown.{text_of_targets}
 use Rattle.slice_text.proofs.copy.write_targets.Given as goal
 
--- who writes those that are left has written all
+-- after the remaining ones all are written
 abbrev pub invariant-loop-target : goal.invariant-loop-target
 invariant-loop-target g l =
     let took = g.W.Write.write_str_gives in

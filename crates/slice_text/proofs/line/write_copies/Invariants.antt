@@ -4,7 +4,7 @@ use Rattle.std.specs.Fmt.{WritesInCalls}
 use Rattle.slice_text.specs.Line.{text_of_states}
 use Rattle.slice_text.proofs.line.write_copies.Given as goal
 
--- who writes those that are left has written all
+-- after the remaining ones all are written
 abbrev pub invariant-loop-state : goal.invariant-loop-state
 invariant-loop-state g l =
     let took = g.W.Write.write_str_gives in

@@ -3,7 +3,7 @@ use Rattle.std.specs.Fmt.{WritesInCalls}
 use Rattle.slice_text.specs.Line.{text_of_words}
 use Rattle.slice_text.proofs.line.write_words.Given as goal
 
--- who writes those that are left has written all
+-- after the remaining ones all are written
 abbrev pub invariant-loop-word : goal.invariant-loop-word
 invariant-loop-word g l =
     let took = g.W.Write.write_str_gives in

@@ -4,7 +4,7 @@ use Rattle.std.specs.List.{flat_map, range_with_len}
 use Rattle.slice_text.specs.Shown.{text_under}
 use Rattle.slice_text.proofs.reply.write_replies_to.Given as goal
 
--- who writes those that are left has written all
+-- after the remaining ones all are written
 abbrev pub invariant-loop-tag : goal.invariant-loop-tag
 invariant-loop-tag g l =
     let took = g.W.Write.write_str_gives in

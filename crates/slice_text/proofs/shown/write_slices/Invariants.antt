@@ -3,7 +3,7 @@ use Rattle.std.specs.Fmt.{WritesInCalls}
 use Rattle.slice_text.specs.Shown.{text_of_machine, text_of_slices}
 use Rattle.slice_text.proofs.shown.write_slices.Given as goal
 
--- who writes the slices that are left has written all
+-- after the remaining slices all are written
 abbrev pub invariant-loop-number : goal.invariant-loop-number
 invariant-loop-number g l =
     let took = g.W.Write.write_str_gives in

@@ -4,7 +4,7 @@ use Rattle.litmus_text.specs.JsonList.{with_commas, with_commas_from}
 use Rattle.litmus_text.specs.JsonNumber.{number_of}
 use Rattle.litmus_test.proofs.outcomes.json.write_values.Given as goal
 
--- who writes the items that are left has written all
+-- after the remaining items all are written
 abbrev pub invariant-loop-value : goal.invariant-loop-value
 invariant-loop-value g l =
     let took = g.W.Write.write_str_gives in

@@ -4,7 +4,7 @@ use Rattle.litmus_text.specs.JsonList.{with_commas, with_commas_from}
 use Rattle.litmus_test.specs.Json.{word_of}
 use Rattle.litmus_test.proofs.outcomes.json.write_words.Given as goal
 
--- who writes the items that are left has written all
+-- after the remaining items all are written
 abbrev pub invariant-loop-word : goal.invariant-loop-word
 invariant-loop-word g l =
     let took = g.W.Write.write_str_gives in

@@ -4,7 +4,7 @@ use Rattle.std.specs.List.{zip}
 use Rattle.litmus_test.specs.OutcomesText.{cells_of, counter_label}
 use Rattle.litmus_test.proofs.outcomes.text.write_counters.Given as goal
 
--- who writes the cells that are left has written all
+-- after the remaining cells all are written
 abbrev pub invariant-loop-counter : goal.invariant-loop-counter
 invariant-loop-counter g l =
     let took = g.W.Write.write_str_gives in

@@ -5,7 +5,7 @@ use Rattle.litmus_test.specs.declared.test.NamedReply.{NamedReply}
 use Rattle.litmus_test.specs.OutcomesText.{cells_of}
 use Rattle.litmus_test.proofs.outcomes.text.write_names.Given as goal
 
--- who writes the cells that are left has written all
+-- after the remaining cells all are written
 abbrev pub invariant-loop-named : goal.invariant-loop-named
 invariant-loop-named g l =
     let took = g.W.Write.write_str_gives in

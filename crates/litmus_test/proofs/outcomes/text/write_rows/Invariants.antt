@@ -4,7 +4,7 @@ use Rattle.std.specs.List.{flat_map}
 use Rattle.litmus_test.specs.OutcomesText.{line_of}
 use Rattle.litmus_test.proofs.outcomes.text.write_rows.Given as goal
 
--- who writes the lines that are left has written all
+-- after the remaining lines all are written
 abbrev pub invariant-loop-row : goal.invariant-loop-row
 invariant-loop-row g l =
     let took = g.W.Write.write_str_gives in

@@ -3,7 +3,7 @@ use Rattle.std.specs.Fmt.{WritesInCalls}
 use Rattle.protocol_models.specs.SmtCache.{states_queries}
 use Rattle.protocol_models.proofs.smt.cache.write_states.Given as goal
 
--- who writes the queries of the states that are left has written all
+-- writing the queries of the states that are left completes the text
 abbrev pub invariant-loop-state : goal.invariant-loop-state
 invariant-loop-state g l =
     let took = g.W.Write.write_str_gives in

@@ -3,7 +3,7 @@ use Rattle.std.specs.Fmt.{WritesInCalls}
 use Rattle.protocol_models.specs.SmtDirectory.{cells_of}
 use Rattle.protocol_models.proofs.smt.directory.write_cells.Given as goal
 
--- who writes the queries of the cells that are left has written all
+-- writing the queries of the cells that are left completes the text
 abbrev pub invariant-loop-case : goal.invariant-loop-case
 invariant-loop-case g l =
     let took = g.W.Write.write_str_gives in

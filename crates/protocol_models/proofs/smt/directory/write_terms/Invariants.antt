@@ -3,7 +3,7 @@ use Rattle.std.specs.Fmt.{WritesInCalls}
 use Rattle.protocol_models.specs.SmtDirectory.{entries_terms}
 use Rattle.protocol_models.proofs.smt.directory.write_terms.Given as goal
 
--- who writes the entries that are left has written all
+-- writing the entries that are left completes the text
 abbrev pub invariant-loop-entry : goal.invariant-loop-entry
 invariant-loop-entry g l =
     let took = g.W.Write.write_str_gives in

@@ -3,7 +3,7 @@ use Rattle.script_coverage.specs.Read.{AddsLines, IsStopped}
 use Rattle.script_coverage.specs.declared.read.Unread.{Unread}
 use Rattle.script_coverage.proofs.coverage.Coverage.read_lines.Given as goal
 
--- who reads the lines that are left has read all
+-- once the lines that are left are read, all are
 abbrev pub invariant-lines : goal.invariant-lines
 invariant-lines l = record {
   all : (new : List (Option ℕ)) → AddsLines l.statements l.self new → AddsLines l.fn.statements l.fn.self new;

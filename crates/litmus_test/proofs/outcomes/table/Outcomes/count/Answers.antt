@@ -5,7 +5,7 @@ use Rattle.litmus_test.proofs.Between.{gap_lacks, grows}
 use Rattle.litmus_test.proofs.outcomes.table.Outcomes.count.Goals as goal
 use Rattle.litmus_test.proofs.outcomes.table.Outcomes.count.Goals.{in-Ok, in-Err+in_ok-insert_row-in-Err}
 
--- what became of the rows, and that the number of rounds wasn't touched
+-- how the rows changed, and that the number of rounds is unchanged
 record Counted (more : RowView) (old new : Inside) : Type 0 where
   rows : CountsAgain more old.rows.items new.rows.items ⊎ CountsFirst more old.rows.items new.rows.items
   kept : new.rounds ≡ old.rounds
@@ -43,7 +43,7 @@ counted c =
           }
     ]
 
--- the rows still ascend, and count so many rounds more
+-- the rows still ascend, and count `rounds` more rounds
 pub invariant_of-self-2 : goal.invariant_of-self-2
 invariant_of-self-2 c =
     let is = counted c in
@@ -55,7 +55,7 @@ invariant_of-self-2 c =
       few = omega (arith, is.kept, rounds_are, c.requires);
     }
 
--- memory is wanted only for an outcome that no row has
+-- memory is needed only for an outcome that no row has
 pub returns-in_err-insert_row-in-Err-clause-known : goal.returns-in_err-insert_row-in-Err-clause-known
 returns-in_err-insert_row-in-Err-clause-known c = λ came.
     absurd (gap_lacks c.args.values.now c.args.self.now.rows c.in-Err.at c.in-Err.ensures.absent came)

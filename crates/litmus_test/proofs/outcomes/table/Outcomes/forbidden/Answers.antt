@@ -7,7 +7,7 @@ use Rattle.litmus_test.proofs.Counting.{counted_by, counted_fits, counted_more, 
 use Rattle.litmus_test.proofs.outcomes.table.Outcomes.forbidden.Goals as goal
 use Rattle.litmus_test.proofs.outcomes.table.Outcomes.forbidden.Goals.{then-is_forbidden, else-is_forbidden}
 
--- no more than all rounds are counted
+-- at most all rounds are counted
 pub overflow_add-count : goal.overflow_add-count
 overflow_add-count c =
     let fits = counted_fits (is_forbidden c.args.test.now)

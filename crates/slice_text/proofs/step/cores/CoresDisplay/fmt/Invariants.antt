@@ -5,7 +5,7 @@ use Rattle.address_map.specs.CoreSet.{members}
 use Rattle.slice_text.specs.Cores.{further_cores, text_of_cores}
 use Rattle.slice_text.proofs.step.cores.CoresDisplay.fmt.Given as goal
 
--- who writes the cores that are left has written the whole text
+-- after the remaining cores the whole text is written
 abbrev pub invariant-loop-core : goal.invariant-loop-core
 invariant-loop-core g l =
     let took = g.W.Write.write_str_gives in

@@ -5,7 +5,7 @@ use Rattle.address_map.specs.CoreSet.{members}
 use Rattle.slice_text.specs.Cores.{text_of_invalidations}
 use Rattle.slice_text.proofs.step.cores.InvalidationsDisplay.fmt.Given as goal
 
--- who writes the invalidations of the cores that are left has written all
+-- after the invalidations of the remaining cores all are written
 abbrev pub invariant-loop-core : goal.invariant-loop-core
 invariant-loop-core g l =
     let took = g.W.Write.write_str_gives in

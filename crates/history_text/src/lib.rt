@@ -5,8 +5,8 @@
 //!   its lines (`AreHistoriesOf` of specs/Judged.antt). A text is refused only if a line of it can't be read, and the
 //!   fault names the first such line (`IsFaultOf`); for a trace it is the one that `trace_check` names.
 //! - [`Histories::take`] takes accesses from elsewhere, one by one.
-//! - [`judge_text`] reads and judges (`IsJudgedText`). [`Histories::judge`] judges histories, by `history_judge`, word by word: [`Verdict::Coherent`] has an order for each
-//!   word, [`Verdict::Incoherent`] a word that has none, and why.
+//! - [`judge_text`] reads and judges (`IsJudgedText`). [`Histories::judge`] judges histories, by `history_judge`, word
+//!   by word: [`Verdict::Coherent`] has an order for each word, [`Verdict::Incoherent`] a word that has none, and why.
 //!
 //! Accesses are kept by word or by line, up to the greatest that has a history. [`claims_of`] says why some have no
 //! order, with the numbers under which they are reported.

@@ -26,7 +26,7 @@ module _ (built config : Config) (commands : List (ℕ × List (List ℕ))) (sta
       subst (λ (c : Config). PlaysUpTo (Plainly c) c commands start (Some []) answers fault) same
       (subst (λ (xs : List ℕ). PlaysUpTo (Plainly built) built commands start (Some xs) answers fault) none stopped)
 
--- what keeps the commands of a script from being played keeps its traces from being written
+-- what prevents the commands of a script from being played prevents its traces from being written
 pub not-traced : (all : List (ℕ × List (List ℕ))) (script : Script) (fault : TextFault) → IsScript all script
     → IsOfRun fault
     ⊎ ((after : Option (List ℕ)) × IsPlayedUpTo Plainly script.config (bound_of script.misses script.config)

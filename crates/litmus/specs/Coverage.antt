@@ -11,7 +11,7 @@ use Rattle.script_coverage.specs.Counts.{listed, sums}
 use Rattle.script_coverage.specs.Coverage.{IsCoverage, IsNotCovered}
 use Rattle.script_coverage.specs.declared.cells.TheConstants.{CELLS}
 
--- These are the counts of a script. As a record it isn't unfolded, with all that a run is, where it is handed on.
+-- These are the counts of a script. As a record it isn't unfolded, with all that a run is, where it is passed on.
 pub record HasCounts (script : List ℕ) (counts : List (Option ℕ)) : Type 0 where
   pub is : IsCoverage (statements_from 0 (lines script)) counts
 
@@ -33,11 +33,11 @@ pub record IsNotCounted (Prints : Option (List ℕ) → Option (List ℕ) → Ty
 
 -- ---- rounds
 
--- the status of rounds of which one more ended with this one: 0 where each did
+-- the status of rounds after one more ended with this one: 0 if each did
 abbrev pub status_with : ℕ → ℕ → ℕ
 status_with before ended = if nat_eq ended 0 then before else ended
 
--- The counts of so many rounds, of which the first has the seed, and each the next, are the sums of those of each.
+-- The counts of `count` rounds, the first with the seed, and each with the next, are the sums of those of each.
 abbrev pub AreCountsOfRounds : LitmusTest → Bound → (seed most count status : ℕ) → List (Option ℕ) → Type 0
 AreCountsOfRounds test bound seed most zero status counts = (status ≡ 0) × (counts ≡ map (listed None) CELLS)
 AreCountsOfRounds test bound seed most (suc round) status counts =
@@ -46,7 +46,7 @@ AreCountsOfRounds test bound seed most (suc round) status counts =
     × AreCountsOf (PrintsWalk test bound (seed_of seed round) most ended) more
     × (status ≡ status_with before ended) × (counts ≡ sums old more)
 
--- .. or one of so many rounds can't be counted
+-- .. or one of `count` rounds can't be counted
 pub record IsRoundNotCounted (test : LitmusTest) (bound : Bound) (seed most count : ℕ) (fault : TextFault) : Type 0
   where
     pub round : ℕ

@@ -15,8 +15,8 @@ pub record IsOfTest (text : List ℕ) (holds : LitmusTest → Type 0) : Type 0 w
   pub written : IsLitmusTest text (said_by test)
   pub is : holds test
 
--- Why nothing was done with it: there was no memory, the output couldn't be written, or the text writes no test. Then the
--- fault names the first line at fault and says what is wrong with it, or which field of the configuration is refused.
+-- Why nothing was done with it: memory ran out, the output couldn't be written, or the text writes no test. Then the
+-- fault names the first invalid line and says what is wrong with it, or which field of the configuration is refused.
 abbrev pub IsTestNotRun : List ℕ → TextFault → Type 0
 IsTestNotRun text fault =
     IsOfRun fault

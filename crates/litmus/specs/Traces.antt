@@ -14,7 +14,7 @@ use Rattle.litmus_threads.specs.Trace.{heading_of}
 use Rattle.mshr_file.specs.Miss.{Bound}
 use Rattle.slice_core_spec.specs.Calls.{PartsView}
 
--- a slice's log as a trace, as the command `log` shows it, after a line that names the slice where there are several
+-- a slice's log as a trace, as the command `log` shows it, after a line that names the slice if there are several
 abbrev pub text_of_slice : Config → List PartsView → ℕ → List ℕ
 text_of_slice c slices slice =
     heading_of c slice ++ text_of_trace c.cores (init_at slices slice) (log_at slices slice)
@@ -33,19 +33,19 @@ pub record IsTracedOn (config : Config) (bound : Bound) (commands : List (ℕ ×
   pub played : PlaysAll (Plainly config) config commands start end (Some []) answers
   pub written : Appends before after (text_of_slices config end config.slices)
 
--- the traces of a script; one that says nothing has none
+-- the traces of a script; an empty one has none
 abbrev pub AreTraces : List (ℕ × List (List ℕ)) → Option (List ℕ) → Option (List ℕ) → Type 0
 AreTraces all before after =
     ((all ≡ []) × (after ≡ before))
     ⊎ ((config : Config) × (bound : Bound) × (commands : List (ℕ × List (List ℕ)))
     × IsSetUp all config bound commands × IsTracedOn config bound commands before after)
 
--- why they aren't written whole: there was no memory, or the output couldn't be written, or the run stops at a fault
+-- why they aren't written whole: memory ran out, or the output couldn't be written, or the run stops at a fault
 abbrev pub IsNotTraced : List (ℕ × List (List ℕ)) → TextFault → Type 0
 IsNotTraced all fault =
     IsOfRun fault ⊎ ((after : Option (List ℕ)) × IsRunUpTo Plainly all (Some []) after fault)
 
--- The script's traces are written. As a record it isn't unfolded where it is handed on.
+-- The script's traces are written. As a record it isn't unfolded where it is passed on.
 pub record HasTraces (script : List ℕ) (before after : Option (List ℕ)) : Type 0 where
   pub are : AreTraces (statements_from 0 (lines script)) before after
 

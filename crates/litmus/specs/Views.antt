@@ -9,7 +9,7 @@ use Rattle.litmus_text.specs.Statement.{statements_from}
 use Rattle.litmus_text.specs.declared.fault.TextFault.{TextFault}
 use Rattle.script_page.specs.Page.{IsPage, IsPageFault}
 
--- The script's page is written. As a record it isn't unfolded, with all of the page's text, where it is handed on.
+-- The script's page is written. As a record it isn't unfolded, with all of the page's text, where it is passed on.
 pub record HasPage (script : List ℕ) (before after : Option (List ℕ)) : Type 0 where
   pub is : IsPage false script (statements_from 0 (lines script)) before after
 

@@ -12,9 +12,9 @@ use script_coverage::{Coverage, coverage_of, print_coverage};
 use std::alloc::Global;
 use std::io::Write;
 
-/// Walks through a litmus test, so many rounds or as many as it says, and prints how often their steps met each cell of
-/// the tables. Each round goes as far as it can, or as `limit` moves, if a limit is given. Returns the exit status, which
-/// is 1 where one of them is stuck or was given up.
+/// Walks through a litmus test, the given number of rounds or the test's own, and prints how often their steps met each
+/// cell of the tables. Each round goes as far as it can, or up to `limit` moves, if a limit is given. Returns the exit
+/// status, which is 1 if one of them is stuck or was given up.
 pub fn coverage_walk<W: Write, P: Progress>(
     alloc: Global,
     input: &[u8],
@@ -61,7 +61,7 @@ fn cover_walks<W: Write, P: Progress>(
     }
 }
 
-/// The counts of all rounds, and their status.
+/// Returns the counts of all rounds, and their status.
 fn count_rounds<P: Progress>(
     alloc: Global,
     test: &LitmusTest<'_>,
@@ -81,7 +81,7 @@ fn count_rounds<P: Progress>(
         let (more, ended) = count_round(alloc, test, seed.wrapping_add(round), most)?;
         match coverage.add_all(&more) {
             Ok(()) => {}
-            // nobody makes so many steps
+            // no run makes that many steps
             Err(_) => return Err(TextFault::NoMemory),
         }
         status = status_with(status, ended);
@@ -90,14 +90,14 @@ fn count_rounds<P: Progress>(
     Ok((coverage, status))
 }
 
-/// The status of rounds of which one more ended with this one.
+/// Returns the status of rounds after one more ended with this one.
 const fn status_with(before: u8, ended: u8) -> u8
     ensures { result ≡ status_with before ended }
 {
     if ended == 0 { before } else { ended }
 }
 
-/// The counts of the round of this seed, and its status.
+/// Returns the counts of the round of this seed, and its status.
 fn count_round(
     alloc: Global,
     test: &LitmusTest<'_>,
@@ -112,7 +112,7 @@ fn count_round(
     let mut script = Vec::new(alloc);
     match litmus_walk::write_walk(alloc, test, seed, most, &mut script) {
         Ok(status) => Ok((counts_of(alloc, script.as_slice())?, status)),
-        // writing to memory fails for want of it
+        // writing to memory fails only if it runs out
         Err(TextFault::CannotWrite) => Err(TextFault::NoMemory),
         Err(fault) => Err(fault),
     }

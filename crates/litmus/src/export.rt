@@ -11,8 +11,8 @@ use litmus_text::TextFault;
 use protocol_models::{write_model, write_queries};
 use std::io::Write;
 
-/// Prints the protocol of a line under these tables as a model of so many cores, and with what can be completed once no
-/// core asks any more, or without it. Returns the exit status.
+/// Prints the protocol of a line under these tables as a model of `cores` cores, and with what can be completed once no
+/// core makes requests any more, or without it. Returns the exit status.
 pub fn run_export<W: Write>(
     tables: &Tables,
     cores: ModelCores,
@@ -46,7 +46,7 @@ fn print_model<W: Write>(
     }
 }
 
-/// Prints a line's protocol as queries of any number of cores, with the exclusive state or without it. Returns the exit
+/// Prints a line's protocol as queries for any number of cores, with or without the exclusive state. Returns the exit
 /// status.
 pub fn run_queries<W: Write>(exclusive: bool, out: &mut W) -> Result<u8, TextFault>
     ensures status { IfOk result (λ status. status ≡ 0) }

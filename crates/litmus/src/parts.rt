@@ -1,4 +1,4 @@
-//! A walk in parts: it is printed in parts, and parts that were put together are printed as one walk.
+//! A walk in parts: it is printed in parts, and parts that were joined are printed as one walk.
 ghost use Rattle.std.specs.Prelude.{◌≡◌, ◌-◌, ◌^◌, [], All, IfErr, IfOk, OnOk, unwrap_or};
 ghost use Rattle.litmus.specs.Tests.{IsOfTest, IsTestNotRun};
 ghost use Rattle.litmus_rounds.specs.Parts.{IsPartOf, PrintsParts};
@@ -13,10 +13,10 @@ use std::alloc::Global;
 use std::io::Write;
 use std::thread::Threads;
 
-/// Runs a litmus test on random schedules, as [`run_walk`] does, and prints the rounds in parts, of which
-/// each is written out as soon as its rounds are over. Those that are known already are printed and not
-/// walked. Returns the exit status, which is 0 whatever came of the rounds; or 2, where the known parts
-/// aren't the first of these rounds, and nothing is printed.
+/// Runs a litmus test on random schedules, as [`run_walk`] does, and prints the rounds in parts, each as
+/// soon as its rounds are over. Parts that are already known are printed and not walked. Returns the exit
+/// status, which is 0 whatever the outcomes of the rounds; or 2, if the known parts aren't the first of
+/// these rounds, and nothing is printed.
 ///
 /// [`run_walk`]: super::run_walk
 pub fn print_parts<R: Threads + Sync, W: Write, P: Progress>(
@@ -57,8 +57,7 @@ pub fn print_parts<R: Threads + Sync, W: Write, P: Progress>(
     }
 }
 
-/// Prints what parts come to that were put together, as one walk of all their rounds prints it. Returns
-/// its exit status.
+/// Prints parts that were joined, as one walk of all their rounds prints them. Returns its exit status.
 pub fn print_merged<W: Write>(
     alloc: Global,
     input: &[u8],

@@ -14,7 +14,7 @@ use protocol_tables::{
 use std::fmt;
 use std::io::Write;
 
-/// Prints a table, with what the exclusive state adds to it or without that, and what its words mean. Returns the exit
+/// Prints a table, with or without what the exclusive state adds to it, and what its words mean. Returns the exit
 /// status.
 pub fn run_table<W: Write>(table: Table, exclusive: bool, out: &mut W) -> Result<u8, TextFault>
     ensures status { IfOk result (λ status. status ≡ 0) }
@@ -28,7 +28,7 @@ pub fn run_table<W: Write>(table: Table, exclusive: bool, out: &mut W) -> Result
     }
 }
 
-/// Prints each cell of a table as a value of JSON. Returns the exit status.
+/// Prints each cell of a table as a JSON value. Returns the exit status.
 pub fn run_table_cells<W: Write>(
     table: Table,
     exclusive: bool,

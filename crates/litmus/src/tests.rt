@@ -52,13 +52,13 @@ pub fn run_litmus_as<R: Threads + Wait + Sync, W: Write, P: Progress>(
 {
     let test = LitmusTest::read(alloc, input)?;
     let ended = play_test(alloc, rt, &test, seed, limit, form, progress, out);
-    // In one call: dropped where it is it would be taken apart, each part with a proof of its own.
+    // In one call: else it would be dropped part by part, each with a proof of its own.
     drop(test);
     ended
 }
 
 /// Plays the round of this number of a litmus test over threads, and writes the log of each slice as a trace, with what
-/// the audit said of it; or that the round was stuck. Returns the exit status, which is 1 where it was.
+/// the audit found; or that the round was stuck. Returns the exit status, which is 1 if it was.
 pub fn trace_litmus<R: Threads + Wait + Sync, W: Write>(
     alloc: Global,
     rt: &R,
@@ -78,10 +78,10 @@ pub fn trace_litmus<R: Threads + Wait + Sync, W: Write>(
     ended
 }
 
-/// Runs a litmus test on random schedules, so many rounds or as many as it says, and prints their outcomes with the
-/// seed of the first round that had each outcome, or which round was stuck, or was given up after `limit` moves. Without
-/// a limit that takes 2^64 - 1 of them. Rounds are walked in so many jobs side by side, which changes nothing in what is
-/// printed. Returns the exit status.
+/// Runs a litmus test on random schedules, the given number of rounds or the test's own, and prints their outcomes with
+/// the seed of the first round that had each outcome, or which round was stuck, or was given up after `limit` moves.
+/// The default limit is 2^64 - 1. Rounds are walked in parallel jobs, whose number doesn't change what is printed.
+/// Returns the exit status.
 pub fn run_walk<R: Threads + Sync, W: Write, P: Progress>(
     alloc: Global,
     rt: &R,
@@ -109,8 +109,8 @@ pub fn run_walk<R: Threads + Sync, W: Write, P: Progress>(
     ended
 }
 
-/// Prints the round of this seed as a script, as far as `limit` moves, if a limit is given. Returns the exit status, which
-/// is 1 where the round is stuck or was given up.
+/// Prints the round of this seed as a script, up to `limit` moves, if a limit is given. Returns the exit status, which
+/// is 1 if the round is stuck or was given up.
 pub fn write_walk<W: Write>(
     alloc: Global,
     input: &[u8],

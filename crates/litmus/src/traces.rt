@@ -50,7 +50,7 @@ fn trace_script<W: Write>(alloc: Global, script: Script<'_>, out: &mut W) -> Res
     let mut answers = Vec::new(alloc);
     match commands.play(&mut machine, &mut answers) {
         Ok(()) => write_logs(&machine, out),
-        // writing to memory fails for want of it
+        // writing to memory fails only if it runs out
         Err(TextFault::CannotWrite) => Err(TextFault::NoMemory),
         Err(fault) => Err(fault),
     }
@@ -78,7 +78,7 @@ fn write_log<W: Write>(machine: &Machine, slice: SliceId, out: &mut W) -> Result
     machine.show(Look::Log(slice), out)
 }
 
-/// Writes the line before a slice's trace, where the machine has several slices.
+/// Writes the line before a slice's trace, if the machine has several slices.
 fn name_slice<W: Write>(config: &Checked, slice: SliceId, out: &mut W) -> Result<(), TextFault>
     ensures named { OnOk result
         (Appends (W.contents out.old) (W.contents out.new) (heading_of config.now slice.0)) }

@@ -31,7 +31,7 @@ pub enum View {
 }
 
 /// Writes this view of the script that [`write_walk`] prints, after the lines of `head`. Returns the
-/// exit status, which is 1 where the round is stuck or was given up.
+/// exit status, which is 1 if the round is stuck or was given up.
 pub fn view_walk<W: Write>(
     alloc: Global,
     view: View,
@@ -51,14 +51,14 @@ pub fn view_walk<W: Write>(
     let mut script = head;
     match write_walk(alloc, input, seed, limit, &mut script) {
         Ok(status) => write_view(alloc, view, script.as_slice(), status, out),
-        // writing to memory fails for want of it
+        // writing to memory fails only if it runs out
         Err(TextFault::CannotWrite) => Err(TextFault::NoMemory),
         Err(fault) => Err(fault),
     }
 }
 
 /// Writes this view of the script that [`write_schedule`] prints, after the lines of `head`. Returns
-/// the exit status, which is 1 where nothing can move before the end.
+/// the exit status, which is 1 if nothing can move before the end.
 pub fn view_schedule<W: Write>(
     alloc: Global,
     view: View,
@@ -83,7 +83,7 @@ pub fn view_schedule<W: Write>(
     let mut script = head;
     match write_schedule(alloc, input, given, seed, &mut script) {
         Ok(status) => write_view(alloc, view, script.as_slice(), status, out),
-        // writing to memory fails for want of it
+        // writing to memory fails only if it runs out
         Err(TextFault::CannotWrite) => Err(TextFault::NoMemory),
         Err(fault) => Err(fault),
     }

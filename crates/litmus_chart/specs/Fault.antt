@@ -7,7 +7,7 @@ use Rattle.litmus_text.specs.declared.command.Command.{Command}
 use Rattle.litmus_text.specs.declared.fault.TextFault.{TextFault}
 use Rattle.mshr_file.specs.Miss.{Bound}
 
--- a command on a line is drawn: what is drawn of it isn't said
+-- a command on a line is drawn: what is drawn of it isn't specified
 abbrev pub Draws : Unit {0} → List ℕ → Command → Option (List ℕ) → Option (List ℕ) → Unit {0} → Type 0
 Draws old line command before after new = Unit {0}
 

@@ -28,7 +28,7 @@ impl fmt::Display for Participant {
     }
 }
 
-/// What became of a message in front of its channel.
+/// What became of a message at the front of its channel.
 #[derive(Clone, Copy, Debug, PartialEq, Eq)]
 pub enum Fate {
     Delivered,
@@ -36,7 +36,7 @@ pub enum Fate {
     Broken(Cell),
 }
 
-/// A message on its way: an arrow, which ends in a cross where the message isn't delivered.
+/// A message in flight: an arrow, which ends in a cross if the message isn't delivered.
 #[derive(Drop)]
 pub struct Arrow {
     pub from: Participant,
@@ -65,7 +65,7 @@ impl fmt::Display for Arrow {
     }
 }
 
-/// Who takes the messages of a channel of a slice.
+/// Returns the receiver of a channel of a slice.
 pub fn receiver(slice: usize, pick: Pick) -> Participant
     ensures { result ≡ receiver_of slice pick }
 {
@@ -77,7 +77,7 @@ pub fn receiver(slice: usize, pick: Pick) -> Participant
     }
 }
 
-/// Who sent the message of a channel of a slice, where a core is known to have sent it, and where none is.
+/// Returns the sender of the message of a channel of a slice, with or without a core known to have sent it.
 pub fn sender(slice: usize, pick: Pick, known: Option<CoreId>) -> Participant
     ensures { result ≡ sender_of slice pick known }
 {

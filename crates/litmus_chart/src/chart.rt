@@ -23,8 +23,8 @@ use std::alloc::Global;
 use std::fmt;
 use std::io::Write;
 
-/// Draws the run of a script: a sequence diagram in Mermaid's words. Returns the exit status. A fault ends the chart;
-/// what was written before it stays.
+/// Draws the run of a script as a sequence diagram in Mermaid's syntax. Returns the exit status. A fault ends the
+/// chart; what was written before it stays.
 #[tactic(auto, using(crate::proofs::FaultLemmas::fault_of_script))]
 pub fn run_chart<W: Write>(alloc: Global, input: &[u8], out: &mut W) -> Result<u8, TextFault>
     ensures status { IfOk result (λ status. status ≡ 0) }
@@ -38,7 +38,7 @@ pub fn run_chart<W: Write>(alloc: Global, input: &[u8], out: &mut W) -> Result<u
     Ok(0)
 }
 
-/// The chart of a script that says nothing has those who take part in any other.
+/// Writes the chart of an empty script, with the participants of the default machine.
 fn chart_of_nothing<W: Write>(alloc: Global, out: &mut TextWriter<'_, W>) -> Result<(), TextFault>
     ensures fault { IfErr result IsOfRun }
 {
@@ -67,7 +67,7 @@ fn chart_of<W: Write>(
     commands.play(&mut chart, out.out)
 }
 
-/// An access that isn't accepted is drawn as an arrow of the core to itself, which ends in a cross.
+/// Draws an access that isn't accepted as an arrow of the core to itself, which ends in a cross.
 fn note_issued<W: Write>(
     core: CoreId,
     statement: &Statement<'_>,
@@ -93,7 +93,7 @@ struct Chart {
 impl Player for Chart {
     ghost config_of = { λ chart. chart.machine.config };
 
-    // What is drawn isn't said.
+    // What is drawn isn't specified.
     ghost plays = { λ old line command before after new. Unit {0} };
 
     fn config(&self) -> &Checked {
@@ -121,7 +121,7 @@ impl Player for Chart {
 impl Deliverer for Chart {
     ghost config_of = { λ chart. chart.machine.config };
 
-    // What is drawn isn't said.
+    // What is drawn isn't specified.
     ghost delivers = { λ old slice answer before after new. Unit {0} };
 
     fn slices(&self) -> usize {
@@ -156,7 +156,7 @@ impl Chart {
         })
     }
 
-    /// What a command shows of a line is said over its directory.
+    /// Draws what a command shows of a line as a note over its directory.
     fn show<W: Write>(
         &self,
         statement: &Statement<'_>,
@@ -216,7 +216,7 @@ impl Chart {
         written(before.write_change(&self.machine, out))
     }
 
-    /// Where nothing waits, a note says so.
+    /// If nothing waits, a note says so.
     fn deliver<W: Write>(
         &mut self,
         statement: &Statement<'_>,
@@ -258,7 +258,7 @@ impl Chart {
         written(write_handed(handed, out))
     }
 
-    /// Draws each delivery, and then what is left.
+    /// Draws each delivery, and then what remains.
     fn pump<W: Write>(
         &mut self,
         statement: &Statement<'_>,

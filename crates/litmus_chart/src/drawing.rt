@@ -9,7 +9,7 @@ use slice_text::{Asked, MessageName};
 use std::fmt;
 use std::fmt::Write;
 
-// In pixels: where the first lifeline stands, how far the next, where the first row, how far the next, half a bar.
+// In pixels: the first lifeline, the distance of the next, the first row, the distance of the next, half a bar.
 const FIRST_LIFE: usize = 270;
 
 const LIFE: usize = 190;
@@ -64,7 +64,7 @@ fn write_head<W: Write>(space: &SpaceTime, out: &mut W) -> fmt::Result {
     out.write_str(STYLE)
 }
 
-// Where the lifeline of this rank stands: that of the directory is the first.
+// Returns the position of the lifeline of this rank: the directory's is the first.
 fn life_at(rank: usize) -> usize {
     FIRST_LIFE.saturating_add(rank.saturating_mul(LIFE))
 }
@@ -139,7 +139,7 @@ fn write_spans<W: Write>(space: &SpaceTime, out: &mut W) -> fmt::Result {
     Ok(())
 }
 
-// Up to which row the span of this number lasts: the next one of the same participant.
+// Returns the row in which the span of this number ends: that of the next one of the same participant.
 fn end_of_span(space: &SpaceTime, number: usize, who: Participant) -> usize {
     let later = number.saturating_add(1);
     for span in space.spans.iter().skip(later) {
@@ -173,7 +173,7 @@ fn write_span<W: Write>(space: &SpaceTime, span: Span, end: usize, out: &mut W) 
     out.write_str("</text>\n")
 }
 
-// What is told stands left of the directory, whose messages go to the right, and right of a core.
+// Remarks are left of the directory, whose messages go to the right, and right of a core.
 fn beside(who: Participant, x: usize) -> usize {
     match who {
         Participant::Directory(_) => x.saturating_sub(HALF + 4),
@@ -195,7 +195,7 @@ fn write_messages<W: Write>(space: &SpaceTime, out: &mut W) -> fmt::Result {
     Ok(())
 }
 
-/// An arrow from its sending to its delivery. What is in flight ends on its way, dashed.
+/// Writes an arrow from a message's sending to its delivery. In flight it ends short of its receiver, dashed.
 fn write_message<W: Write>(space: &SpaceTime, flown: Flown, out: &mut W) -> fmt::Result {
     let to = super::arrow::receiver(space.slice, flown.pick);
     let (from, to) = (life_of(space, flown.from), life_of(space, to));
@@ -274,7 +274,7 @@ fn write_mark<W: Write>(space: &SpaceTime, mark: Mark, out: &mut W) -> fmt::Resu
         )?;
         write_performed(entry, out)?;
     } else {
-        // Right of any lifeline there is room: left of the directory stand the commands.
+        // Right of any lifeline there is room: the commands are left of the directory.
         let beside = x.saturating_add(HALF + 4);
         let above = y.saturating_sub(4);
         write!(
@@ -290,7 +290,7 @@ fn write_mark<W: Write>(space: &SpaceTime, mark: Mark, out: &mut W) -> fmt::Resu
     out.write_str("</text>\n")
 }
 
-/// What an access asked for, and its reply where it has one.
+/// Writes an access, and its reply if it has one.
 fn write_performed<W: Write>(entry: Entry, out: &mut W) -> fmt::Result {
     let asked = Asked {
         word: entry.word,

@@ -1,11 +1,11 @@
-//! Draws a script's run as a sequence diagram, in Mermaid's words, or one line of it as a space-time diagram, in SVG.
+//! Draws a script's run as a sequence diagram, in Mermaid's syntax, or one line of it as a space-time diagram, in SVG.
 //!
 //! [`run_chart`] and [`run_svg`] play a script on a machine, and look before each call at what it can change: the
-//! message in front of its channel, and the lines as they are. [`line_count`] is how many lines there are to draw.
-//! [`write_drawing`] draws a [`SpaceTime`] that somebody else recorded.
+//! message at the front of its channel, and the lines as they are. [`line_count`] is the number of lines to draw.
+//! [`write_drawing`] draws a [`SpaceTime`] that was recorded elsewhere.
 //!
-//! - `chart` draws the commands, `picture` the messages and the changes of lines, of which `names` keeps those asked
-//!   for;
+//! - `chart` draws the commands, `picture` the messages and the changes of lines; `names` keeps the lines that were
+//!   requested;
 //! - `seen` is what was looked at before a call;
 //! - `arrow` says who takes part and what an arrow says, `note` what the notes say;
 //! - `svg` records the rows of a space-time diagram, which `space_time` keeps and `drawing` draws; `sends` says what a

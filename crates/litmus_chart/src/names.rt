@@ -5,12 +5,12 @@ use address_map::LineAddr;
 use litmus_text::TextFault;
 use std::alloc::Global;
 
-/// The lines that were asked for, in the order in which each was first asked for.
+/// The lines that were requested, in the order of their first request.
 #[derive(Drop)]
 pub struct Names {
-    /// By line, how many others were asked for before it.
+    /// By line, how many others were requested before it.
     ranks: Vec<Option<usize>>,
-    /// How many lines were asked for.
+    /// The number of lines that were requested.
     count: usize,
 }
 
@@ -22,7 +22,7 @@ impl Names {
         }
     }
 
-    // How many lines were asked for before this one; none where it wasn't.
+    // Returns how many lines were requested before this one, or none if it wasn't.
     fn rank(&self, line: LineAddr) -> Option<usize> {
         match self.ranks.get(line.0 as usize) {
             Some(rank) => *rank,
@@ -30,7 +30,7 @@ impl Names {
         }
     }
 
-    /// Whether the one line was asked for before the other.
+    /// Whether the one line was requested before the other.
     pub fn is_first(&self, line: LineAddr, other: LineAddr) -> bool {
         match (self.rank(line), self.rank(other)) {
             (Some(rank), Some(later)) => rank < later,
@@ -38,7 +38,7 @@ impl Names {
         }
     }
 
-    /// The line has been asked for: where it wasn't before, its rank is the next.
+    /// Notes that the line was requested: if it wasn't before, its rank is the next.
     pub fn name(&mut self, line: LineAddr) -> Result<(), TextFault>
         ensures { IfErr result IsOfRun }
     {

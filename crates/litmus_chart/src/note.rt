@@ -7,7 +7,7 @@ use slice_text::Cores;
 use std::fmt::{Display, Write};
 use std::{fmt, io};
 
-/// Writes who takes part: the directory of each slice, and then each core.
+/// Writes the participants: the directory of each slice, and then each core.
 pub fn write_participants<W: Write>(config: &Checked, out: &mut W) -> fmt::Result {
     writeln!(out, "sequenceDiagram")?;
     write_directories(config.slices(), out)?;
@@ -27,7 +27,7 @@ fn write_directories<W: Write>(slices: usize, out: &mut W) -> fmt::Result {
     Ok(())
 }
 
-/// Begins a note on what a statement came to, with its words. The answer is written next, and ends the note.
+/// Begins a note on the result of a statement, with its words. The answer is written next, and ends the note.
 pub fn begin_note<W: io::Write>(
     over: impl Display + Drop,
     statement: &Statement<'_>,
@@ -37,7 +37,7 @@ pub fn begin_note<W: io::Write>(
     write_words(statement, out)
 }
 
-/// The same for an access that a core makes in vain: an arrow to itself, which ends in a cross.
+/// The same for an access that isn't accepted: an arrow of the core to itself, which ends in a cross.
 pub fn begin_cross<W: io::Write>(
     core: Participant,
     statement: &Statement<'_>,

@@ -14,14 +14,14 @@ use std::fmt;
 use std::fmt::Write as _;
 use std::io::Write;
 
-/// Data or a block on its way that a core has sent. All others are the directory's.
+/// Data or a block in flight that a core has sent. All others are the directory's.
 #[derive(Drop)]
 struct Sent {
     pick: Pick,
     by: CoreId,
 }
 
-/// What a chart knows of a run beside the machine.
+/// What a chart knows of a run besides the machine.
 #[derive(Drop)]
 pub struct Picture {
     names: Names,
@@ -36,8 +36,8 @@ impl Picture {
         }
     }
 
-    /// What an access of a core can change: the line itself, and those of its set in the core's array, of which one may
-    /// have to leave for it.
+    /// Returns what an access of a core can change: the line itself, and those of its set in the core's array, one of
+    /// which may be evicted for it.
     pub fn look(
         &self,
         alloc: Global,
@@ -58,15 +58,15 @@ impl Picture {
         Ok(seen)
     }
 
-    /// A core has asked for the line.
+    /// Notes that a core has requested the line.
     pub fn name(&mut self, line: LineAddr) -> Result<(), TextFault>
         ensures fault { IfErr result IsOfRun }
     {
         self.names.name(line)
     }
 
-    /// Draws what an access of a core changed: the line itself, and the one that had to leave for it, in the order in
-    /// which they were first asked for. Before that these were looked at, the line first.
+    /// Draws what an access of a core changed: the line itself, and the one that was evicted for it, in the order of
+    /// their first requests. Before that these were looked at, the line first.
     pub fn write_access<W: Write>(
         &self,
         now: &Machine,
@@ -96,7 +96,7 @@ impl Picture {
         }
     }
 
-    /// Draws a message in front of its channel. There is none where nothing waits.
+    /// Draws a message at the front of its channel. There is none if nothing waits.
     pub fn write_arrow<W: Write>(
         &self,
         flight: &Flight,
@@ -132,7 +132,7 @@ impl Picture {
         written(flight.line.write_change(now, out))
     }
 
-    /// Notes who has sent the data that a message asked its receiver for.
+    /// Notes the sender of the data that a message requested from its receiver.
     fn expect(&mut self, flight: &Flight) -> Result<(), TextFault>
         ensures fault { IfErr result IsOfRun }
     {
@@ -176,7 +176,7 @@ fn note(seen: &mut Vec<Seen>, one: Seen) -> Result<(), TextFault>
     seen.push(one).map_err(|_| TextFault::NoMemory)
 }
 
-/// The lines of the line's set in the core's array.
+/// Returns the lines of the line's set in the core's array.
 fn set_of(
     alloc: Global,
     machine: &Machine,
@@ -192,7 +192,7 @@ fn set_of(
         .map_err(|_| TextFault::NoMemory)
 }
 
-/// The line that last left the core in the slice of this one.
+/// Returns the line that the core last evicted in the slice of this one.
 fn last_written_back(machine: &Machine, core: CoreId, line: LineAddr) -> Option<LineAddr>
     requires { HasCore machine.now.config core }
 {

@@ -7,7 +7,7 @@ use slice_core::{LineView, Message, Pick};
 use std::fmt;
 use std::fmt::Write;
 
-/// What its slice had of a line.
+/// The slice's view of a line.
 #[derive(Drop)]
 pub struct Seen {
     pub line: LineAddr,
@@ -23,7 +23,7 @@ impl Seen {
         }
     }
 
-    /// Draws what is different of the line now.
+    /// Draws what has changed of the line.
     pub fn write_change<W: Write>(&self, now: &Machine, out: &mut W) -> fmt::Result {
         if let (Some(before), Some(after)) = (&self.view, &now.view(self.line)) {
             let directory = Participant::Directory(now.slice_of(self.line));
@@ -33,12 +33,12 @@ impl Seen {
     }
 }
 
-/// A message in front of a channel, and its line.
+/// A message at the front of a channel, and its line.
 #[derive(Drop)]
 pub struct Flight {
     pub pick: Pick,
     pub slice: usize,
-    /// None where nothing waits.
+    /// None if nothing waits.
     pub message: Option<Message>,
     pub line: Seen,
 }
@@ -54,7 +54,7 @@ impl Flight {
         }
     }
 
-    /// Who takes the messages of the channel.
+    /// Returns the receiver of the channel.
     pub fn receiver(&self) -> Participant {
         receiver(self.slice, self.pick)
     }

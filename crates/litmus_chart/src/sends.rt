@@ -2,7 +2,7 @@
 use address_map::{CoreId, CoreSet, LineAddr};
 use slice_core::{CacheSends, DirSends, Pick, Transition};
 
-/// The messages that a step sends for one line: at most one of each kind but the forwarded ones.
+/// The messages that a step sends for one line: at most one of each kind except the forwarded ones.
 #[derive(Clone, Copy, Debug)]
 pub struct Sends {
     pub data: Option<CoreId>,
@@ -14,7 +14,7 @@ pub struct Sends {
 }
 
 impl Sends {
-    /// What is sent where the message in front of this channel is taken so.
+    /// Returns what is sent if the message at the front of this channel is taken by this transition.
     pub fn of(pick: Pick, transition: Transition) -> Self {
         match transition {
             Transition::Directory(step) => Sends::of_directory(requester_at(pick), step.sends),
@@ -67,8 +67,8 @@ impl Sends {
         }
     }
 
-    /// The channels that these messages go to, sent by this core if one sends them, as (channel, sender) pairs are asked
-    /// for one at a time: none once all were named.
+    /// Returns the next of the channels to which these messages go, by this core if a core sends them, or none once all
+    /// were returned.
     pub fn next(&mut self, line: LineAddr, by: Option<CoreId>) -> Option<Pick> {
         if let Some(core) = self.data.take() {
             return Some(Pick::Data(line, core));
@@ -87,7 +87,7 @@ impl Sends {
     }
 }
 
-// The core whose request stands there.
+// Returns the core whose request is there.
 fn requester_at(pick: Pick) -> CoreId {
     match pick {
         Pick::Req(_, core) | Pick::Fwd(_, core) | Pick::Data(_, core) => core,

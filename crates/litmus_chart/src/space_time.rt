@@ -1,4 +1,4 @@
-//! What happened to one line, row by row: states from when on, messages from sending to delivery.
+//! What happened to one line, row by row: states and when they began, messages from sending to delivery.
 ghost use Rattle.std.specs.Prelude.{◌<◌, length, IfErr, IfSome};
 ghost use Rattle.litmus_script.specs.Play.{IsOfRun};
 
@@ -38,7 +38,7 @@ pub struct Flown {
     pub message: Option<Message>,
 }
 
-/// What is told beside a lifeline.
+/// A remark next to a lifeline.
 #[derive(Clone, Copy, Debug)]
 pub enum What {
     Performed(Entry),
@@ -52,7 +52,7 @@ pub enum What {
     Said(&'static str),
 }
 
-/// .. in which row, and beside whose.
+/// .. in which row, and next to whose.
 #[derive(Clone, Copy, Debug)]
 pub struct Mark {
     pub who: Participant,
@@ -60,7 +60,7 @@ pub struct Mark {
     pub what: What,
 }
 
-/// The space-time diagram of one line: that which a command names first, unless one was asked for.
+/// The space-time diagram of one line: the one that a command names first, unless one was chosen.
 #[derive(Drop)]
 pub struct SpaceTime {
     pub line: Option<LineAddr>,
@@ -71,11 +71,11 @@ pub struct SpaceTime {
     pub marks: Vec<Mark>,
     /// The cores that had a copy, or sent or took a message.
     pub cores: CoreSet,
-    /// What is said below the last row.
+    /// The text below the last row.
     pub caption: Option<&'static str>,
     // Those of `flown` that are in flight, first sent first.
     open: Vec<usize>,
-    // What was seen last.
+    // The states seen last.
     dir: DirState,
     copies: ArrayVec<CopyState, 64>,
     performed: usize,
@@ -99,7 +99,7 @@ impl SpaceTime {
         }
     }
 
-    /// Whether the diagram is of this line. It is of the first one that it is asked about.
+    /// Whether the diagram is of this line. It is of the first line with which this is called.
     pub fn follows(&mut self, line: LineAddr) -> bool {
         match self.line {
             Some(followed) => followed == line,
@@ -127,7 +127,7 @@ impl SpaceTime {
         Ok(())
     }
 
-    /// A message was sent to a channel.
+    /// Records that a message was sent to a channel.
     pub fn send(&mut self, pick: Pick, from: Participant, row: usize) -> Result<(), TextFault>
         ensures fault { IfErr result IsOfRun }
     {
@@ -144,7 +144,7 @@ impl SpaceTime {
         Ok(())
     }
 
-    /// A participant came to a state.
+    /// Records that a participant entered a state.
     pub fn enter(&mut self, who: Participant, state: State, row: usize) -> Result<(), TextFault>
         ensures fault { IfErr result IsOfRun }
     {
@@ -157,7 +157,7 @@ impl SpaceTime {
         Ok(())
     }
 
-    /// A core sent a request for the line.
+    /// Records that a core sent a request for the line.
     pub fn send_request(&mut self, core: CoreId, row: usize) -> Result<(), TextFault>
         ensures fault { IfErr result IsOfRun }
     {
@@ -167,7 +167,7 @@ impl SpaceTime {
         }
     }
 
-    /// The messages of a step were sent, by this core if by one.
+    /// Records that the messages of a step were sent, by this core if by one.
     pub fn send_all(
         &mut self,
         mut sends: Sends,
@@ -187,7 +187,7 @@ impl SpaceTime {
         Ok(())
     }
 
-    /// The message in front of a channel was taken.
+    /// Records that the message at the front of a channel was taken.
     pub fn take(&mut self, pick: Pick, message: Option<Message>, row: usize) {
         let at = self.first_open(pick);
         if let Some(place) = at {
@@ -199,7 +199,7 @@ impl SpaceTime {
         }
     }
 
-    // Where in `open` the message in front of a channel stands.
+    // Returns the place in `open` of the message at the front of a channel.
     fn first_open(&self, pick: Pick) -> Option<usize>
         ensures { IfSome result (λ place. place < length self.now.open.items) }
     {
@@ -253,7 +253,7 @@ impl SpaceTime {
         self.enter(Participant::Core(CoreId(number)), State::Copy(copy), row)
     }
 
-    // The state of a core's copy when it was looked at last.
+    // Returns the state of a core's copy when it was last looked at.
     fn copy(&self, core: usize) -> CopyState {
         match self.copies.get(core) {
             Some(copy) => *copy,
@@ -293,7 +293,7 @@ impl SpaceTime {
         Ok(())
     }
 
-    /// Names the messages that are in flight in front of their channels.
+    /// Names the messages in flight at the fronts of their channels.
     pub fn name_open(&mut self, machine: &Machine) {
         for place in 0..self.open.len() {
             let Some(number) = self.open.get(place).copied() else {
@@ -308,7 +308,7 @@ impl SpaceTime {
         }
     }
 
-    /// Names the message in front of a channel.
+    /// Names the message at the front of a channel.
     pub fn name_front(&mut self, pick: Pick, message: Message) {
         if let Some(place) = self.first_open(pick) {
             if let Some(number) = self.open.get(place).copied() {
@@ -323,7 +323,7 @@ impl SpaceTime {
         }
     }
 
-    /// The state that a participant was seen in last.
+    /// Returns the state in which a participant was last seen.
     pub fn state_of(&self, who: Participant) -> State {
         match who {
             Participant::Directory(_) => State::Directory(self.dir),

@@ -1,6 +1,6 @@
 //! How a space-time diagram looks: on a light page, on a dark one, and in print.
 
-/// The styles, and the head of an arrow. A state is told by its name too, never by its color alone.
+/// The styles, and the head of an arrow. A state is shown by its name too, never by its color alone.
 pub const STYLE: &str = "<style>
 svg{font:13px system-ui,sans-serif;background:#fff;color:#111}
 text{fill:currentColor;paint-order:stroke;stroke:#fff;stroke-width:3px}

@@ -41,7 +41,7 @@ pub fn run_svg<W: Write>(
     Ok(0)
 }
 
-/// How many lines the machine of a script has.
+/// Returns the number of lines of a script's machine.
 pub fn line_count(alloc: Global, input: &[u8]) -> Result<u64, TextFault>
     ensures count { IfOk result (IsLineCount (statements_from 0 (lines input.now))) }
     ensures fault { IfErr result (IsNotConfigured (statements_from 0 (lines input.now))) }
@@ -77,7 +77,7 @@ fn draw_script<W: Write>(
     match commands.play(&mut recorder, out) {
         Ok(()) => recorder.draw(out),
         Err(fault) => {
-            // where this can't be written either, there is nobody left to tell
+            // if this can't be written either, the error can't be reported
             let _ = recorder.draw(out);
             Err(fault)
         }
@@ -94,7 +94,7 @@ struct Recorder {
 impl Player for Recorder {
     ghost config_of = { λ recorder. recorder.machine.config };
 
-    // What is drawn isn't said.
+    // What is drawn isn't specified.
     ghost plays = { λ old line command before after new. Unit {0} };
 
     fn config(&self) -> &Checked {
@@ -127,7 +127,7 @@ impl Player for Recorder {
 impl Deliverer for Recorder {
     ghost config_of = { λ recorder. recorder.machine.config };
 
-    // What is drawn isn't said.
+    // What is drawn isn't specified.
     ghost delivers = { λ old slice answer before after new. Unit {0} };
 
     fn slices(&self) -> usize {
@@ -152,7 +152,7 @@ impl Deliverer for Recorder {
     }
 }
 
-/// The message in front of a channel, and what a delivery does with it.
+/// The message at the front of a channel, and what a delivery does with it.
 #[derive(Drop)]
 struct Flight {
     pick: Pick,
@@ -178,7 +178,7 @@ impl Recorder {
         }
     }
 
-    /// An access to another line matters where this one has to leave for it.
+    /// An access to another line matters if it evicts this one.
     fn issue(&mut self, command: Command, core: CoreId, request: Request) -> Result<(), TextFault>
         requires { HasCore self.old.machine.config core }
         ensures config { self.new.machine.config ≡ self.old.machine.config }
@@ -264,7 +264,7 @@ impl Recorder {
         }
     }
 
-    /// The message is taken, and what its receiver sends for it is sent.
+    /// Records that the message is taken, and what its receiver sends for it.
     fn move_message(
         &mut self,
         flight: &Flight,

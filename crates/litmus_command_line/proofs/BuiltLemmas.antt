@@ -58,7 +58,7 @@ with_export (Ok program) (Err e) (Ok new) is export added = absurd added
 with_export (Err e) made (Ok new) is export added = absurd added
 with_export program made (Err e) is export added = tt
 
--- an option on which nothing else depends is free while there is nothing that it can't stand with
+-- an option on which nothing else depends is free while there is nothing that it conflicts with
 free-with : (alone rest : Bool) (had ids both : ℕ) → both ≡ had + ids → (alone && (had == 0 && rest)) ≡ true
     → (alone && (both == 0 && rest)) ≡ (ids == 0)
 free-with false rest had ids both sum is = cc (is)
@@ -70,7 +70,7 @@ free-with true rest (suc had) ids both sum is =
     let some : (suc had == 0) ≡ false = ne_eqb _ _ (λ none. omega (arith, none)) in
     cc (is, some)
 
--- an option that can't stand with some others has a rule on them
+-- an option that conflicts with some others has a rule on them
 pub rule-conflicting : (rule : Rule) (old new : Arg) (ids : List (Bor Text)) → rule.is_free ≡ true
     → HasRule rule old → AddsConflicts old new ids → HasRule (record rule { is_free = is_empty ids }) new
 rule-conflicting rule old new ids free has adds =

@@ -28,7 +28,7 @@ word_rule name words = record (argument_rule name) { parser = Some (Names words)
 abbrev pub flag_rule : Text → Rule
 flag_rule name = record (new_rule name) { long = Some name; action = Some SetTrue }
 
--- .. which can't stand with some others
+-- .. which conflicts with some others
 abbrev pub lone_rule : Text → Rule
 lone_rule name = record (flag_rule name) { is_free = false }
 
@@ -40,7 +40,7 @@ text_rule name = record (new_rule name) { long = Some name; value_names = 1 }
 abbrev pub settings_rule : Text → Rule
 settings_rule name = record (text_rule name) { action = Some Append }
 
--- .. which can't stand with some others
+-- .. which conflicts with some others
 abbrev pub lone_text_rule : Text → Rule
 lone_text_rule name = record (text_rule name) { is_free = false }
 
@@ -68,7 +68,7 @@ few_rule name = number_by name (Unsigned 1 64)
 abbrev pub few_or_none_rule : Text → Rule
 few_or_none_rule name = number_by name (Unsigned 0 64)
 
--- an option that takes a number, which has this value where it is given none
+-- an option that takes a number, with this default
 abbrev pub number_rule_or : Text → Text → Rule
 number_rule_or name value = record (number_rule name) { defaults = value ∷ [] }
 
@@ -76,7 +76,7 @@ number_rule_or name value = record (number_rule name) { defaults = value ∷ [] 
 abbrev pub few_rule_or : Text → Text → Rule
 few_rule_or name value = record (few_rule name) { defaults = value ∷ [] }
 
--- what reads a number within these bounds
+-- the parser of a number within these bounds
 abbrev pub parser_of : Bounds → ValueParser
 parser_of bounds.Any = Unsigned 0 18446744073709551615
 parser_of bounds.Positive = Unsigned 1 18446744073709551615

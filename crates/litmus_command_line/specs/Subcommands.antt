@@ -27,7 +27,7 @@ script_app =
     ∷ lone_rule (codes "vcd") ∷ lone_rule (codes "from-murphi") ∷ lone_rule (codes "json")
     ∷ lone_rule (codes "coverage") ∷ [])
 
--- the subcommand that adds what runs of scripts counted
+-- the subcommand that adds the counts of runs of scripts
 abbrev pub coverage_app : App
 coverage_app = with_rules (new_app (codes "coverage")) (several_rule (codes "FILE") ∷ [])
 
@@ -62,7 +62,7 @@ walk_app =
     ∷ lone_rule (codes "page") ∷ lone_rule (codes "coverage") ∷ lone_rule (codes "trace") ∷ lone_rule (codes "part")
     ∷ lone_text_rule (codes "resume") ∷ lone_rule (codes "json") ∷ flag_rule (codes "explain") ∷ [])
 
--- the subcommand that puts parts of a walk together, or rows
+-- the subcommand that joins parts of a walk, or rows
 abbrev pub merge_app : App
 merge_app =
     with_rules (new_app (codes "merge"))
@@ -125,13 +125,13 @@ export_app forms numbers =
     (word_rule (codes "FORM") forms ∷ choice_rule (codes "cores") numbers ∷ flag_rule (codes "exclusive")
     ∷ flag_rule (codes "closed") ∷ text_rule (codes "cache") ∷ text_rule (codes "directory") ∷ [])
 
--- the program itself, which asks for a subcommand
+-- the program itself, which requires a subcommand
 abbrev pub top_app : App
 top_app = record (new_app (codes "lockup")) {
   top = record (new_app (codes "lockup")).top { subcommand_required = true; has_version = true };
 }
 
--- the subcommand reads these arguments and options, of which it hands none on
+-- the subcommand reads these arguments and options, and passes none on
 abbrev pub Reads : App → Command → Type 0
 Reads app command = (app_of command ≡ app) × ((fields_of command).has_globals ≡ false)
 

@@ -24,27 +24,27 @@ pub enum CommandLine<'a> {
         file: &'a str,
         form: ScriptForm,
     },
-    /// Add what runs of scripts counted, in the files that `read_files` reads.
+    /// Add the counts of runs of scripts, in the files that `read_files` reads.
     Coverage,
     /// Answer a script's lines one by one, after the script in this file if one is named.
     Try {
         file: Option<&'a str>,
     },
-    /// Draw the run of the script in this file: as a sequence diagram, or with `svg` or a line as the space-time diagram
-    /// of a line.
+    /// Draw the run of the script in this file: as a sequence diagram, or with `svg` or a line as the space-time
+    /// diagram of a line.
     Chart {
         file: &'a str,
         svg: bool,
         line: Option<u64>,
     },
-    /// Write the run of the script in this file as a page for a browser: with `guess` so that answers are asked for
-    /// before they are shown.
+    /// Write the run of the script in this file as a page for a browser: with `guess` the page asks for answers before
+    /// it shows them.
     Page {
         file: &'a str,
         guess: bool,
     },
     /// Run the litmus test in this file over threads. The seed is that of the cores' extra turns, and no run takes more
-    /// turns than `limit`. With `json`, print its outcomes as a value of JSON, and with a round to trace what each slice
+    /// turns than `limit`. With `json`, print its outcomes as a JSON value, and with a round to trace what each slice
     /// performed in that. Here and below, with `explain` explain an error.
     Litmus {
         file: &'a str,
@@ -54,9 +54,9 @@ pub enum CommandLine<'a> {
         json: bool,
         explain: bool,
     },
-    /// Run the litmus test in this file on random schedules: so many rounds, or as many as it says, of which the first
-    /// has this seed. A round is given up that isn't over after `limit` moves, if a number is given. Print this form of
-    /// the rounds, which so many processors walk side by side, or of the round of this seed.
+    /// Run the litmus test in this file on random schedules: `rounds` rounds, or the test's own number; the first has
+    /// this seed. A round that isn't over after `limit` moves is given up, if a number is given. Print this form of the
+    /// rounds, which `jobs` processors walk in parallel, or of the round of this seed.
     Walk {
         file: &'a str,
         rounds: Option<u64>,
@@ -66,8 +66,8 @@ pub enum CommandLine<'a> {
         form: ScheduleForm,
         explain: bool,
     },
-    /// Run the same rounds, and print them as parts, for `Merge` to add up: first the whole ones of the file `resume`, if
-    /// one is named.
+    /// Run the same rounds, and print them as parts, for `Merge` to add up: first the whole ones of the file `resume`,
+    /// if one is named.
     Part {
         file: &'a str,
         resume: Option<&'a str>,
@@ -77,15 +77,15 @@ pub enum CommandLine<'a> {
         jobs: Option<u64>,
         explain: bool,
     },
-    /// Put together what the files have that `read_files` reads: rows, or after a litmus test the parts of its walk.
-    /// With `json`, print the outcomes of parts as a value of JSON, and with `mean` the means of rows.
+    /// Join the contents of the files that `read_files` reads: rows, or after a litmus test the parts of its walk. With
+    /// `json`, print the outcomes of parts as a JSON value, and with `mean` the means of rows.
     Merge {
         json: bool,
         mean: bool,
     },
-    /// Run the programs in this file in the order that the seed draws, with so many accesses of a core under way and up
-    /// to so many deliveries of each slice after an access, if a number is given, and not as many as the text says.
-    /// Print this form of the run.
+    /// Run the programs in this file in the order that the seed draws, with `outstanding` accesses of a core under way
+    /// and up to `pace` deliveries of each slice after an access, or the text's numbers if these aren't given. Print
+    /// this form of the run.
     Run {
         file: &'a str,
         outstanding: Option<u64>,
@@ -95,7 +95,7 @@ pub enum CommandLine<'a> {
         explain: bool,
     },
     /// Run the programs in this file once for each combination of the settings that `read_settings` reads, and for each
-    /// of the seeds, or for the one seed where none are given. With `json`, print the rows as a value of JSON.
+    /// of the seeds, or for the one seed if none are given. With `json`, print the rows as a JSON value.
     Sweep {
         file: &'a str,
         outstanding: Option<u64>,
@@ -111,13 +111,13 @@ pub enum CommandLine<'a> {
         size: u64,
         seed: u64,
     },
-    /// Test the script in this file against the answers that it wants. With `first`, print the first difference alone.
+    /// Test the script in this file against its expected answers. With `first`, print only the first difference.
     Test {
         file: &'a str,
         first: bool,
         explain: bool,
     },
-    /// Judge the trace in this file. With `json`, print the verdict as a value of JSON. With `explain`, explain it, or an
+    /// Judge the trace in this file. With `json`, print the verdict as a JSON value. With `explain`, explain it, or an
     /// error.
     Check {
         file: &'a str,
@@ -125,8 +125,8 @@ pub enum CommandLine<'a> {
         explain: bool,
     },
     /// Judge the trace in this file, in which the order of several cores' entries isn't known: each word by itself, or
-    /// with `line` the words of each line. At most `limit` steps are taken to try orders of one. With `witness`, print the
-    /// order of the one with this number, and with `json`, the verdict as a value of JSON. With `explain`, explain an
+    /// with `line` the words of each line. Take at most `limit` steps to try orders of one. With `witness`, print the
+    /// order of the one with this number, and with `json`, the verdict as a JSON value. With `explain`, explain an
     /// error.
     Judge {
         file: &'a str,
@@ -136,15 +136,14 @@ pub enum CommandLine<'a> {
         json: bool,
         explain: bool,
     },
-    /// Print a table of the protocol, with the exclusive state or without it. With `json`, print its cells as values of
-    /// JSON.
+    /// Print a table of the protocol, with or without the exclusive state. With `json`, print its cells as JSON values.
     Table {
         table: Table,
         exclusive: bool,
         json: bool,
     },
-    /// Play one line of memory on so many cores under the tables in these files, with the exclusive state or without it:
-    /// so many states in breadth, and then so many rounds of random steps, of which the first has this seed. Or replay
+    /// Play one line of memory on this number of cores under the tables in these files, with or without the exclusive
+    /// state: `states` states in breadth, and then `rounds` rounds of random steps, the first with this seed. Or replay
     /// what a model checker printed, in the file `trace`. Show what broke in this form.
     WhatIf {
         tables: TableFiles<'a>,
@@ -156,22 +155,22 @@ pub enum CommandLine<'a> {
         form: WhatIfForm,
         trace: Option<&'a str>,
     },
-    /// Print a line's protocol, or that of the tables in these files, as a model of so many cores, with the exclusive
-    /// state or without it, and what can be completed once no core asks any more, or not.
+    /// Print a line's protocol, or that of the tables in these files, as a model of this number of cores, with or
+    /// without the exclusive state, and what can be completed once no core makes requests any more, or not.
     Export {
         tables: TableFiles<'a>,
         cores: ModelCores,
         exclusive: bool,
         closed: bool,
     },
-    /// Print a line's protocol as queries of any number of cores, with the exclusive state or without it.
+    /// Print a line's protocol as queries for any number of cores, with or without the exclusive state.
     Queries {
         exclusive: bool,
     },
 }
 
-/// Reads the program's words, of which the first is its own name. What is refused, and help, is an error that
-/// says what to show, where and with which status.
+/// Reads the program's words; the first is its own name. What is refused, and help, is an error that says what to
+/// show, where and with which status.
 pub fn read_line<'a>(alloc: Global, words: &'a [String]) -> Result<CommandLine<'a>, Error>
     ensures { IfOk result (IsRead (map string_bytes words.entry.now)) }
 {
@@ -180,12 +179,12 @@ pub fn read_line<'a>(alloc: Global, words: &'a [String]) -> Result<CommandLine<'
     drop(matches);
     match line {
         Some(line) => Ok(line),
-        // The command asks for a subcommand and its arguments, so only a model's options are to be told apart.
+        // The command requires a subcommand and its arguments, so only a model's options are to be distinguished.
         None => Err(unfit(alloc)?),
     }
 }
 
-/// Reads the settings that vary, each as it is written after `--set`, of words that ask for rows.
+/// Reads the settings that vary, each as it is written after `--set`, if the words ask for rows.
 pub fn read_settings<'a>(alloc: Global, words: &'a [String]) -> Result<Vec<&'a str>, Error>
     ensures { IfOk result
         (λ texts. AreTexts (codes "set") (map string_bytes words.entry.now) (map (λ text. text.now) texts.items)) }
@@ -193,7 +192,7 @@ pub fn read_settings<'a>(alloc: Global, words: &'a [String]) -> Result<Vec<&'a s
     read_texts(alloc, words, "set")
 }
 
-/// Reads the files that words name which ask to add counts, or to put parts or rows together.
+/// Reads the files that the words name, if they ask to add counts, or to join parts or rows.
 pub fn read_files<'a>(alloc: Global, words: &'a [String]) -> Result<Vec<&'a str>, Error>
     ensures { IfOk result
         (λ texts. AreTexts (codes "FILE") (map string_bytes words.entry.now) (map (λ text. text.now) texts.items)) }
@@ -279,7 +278,7 @@ fn script_line<'a>(given: &ArgMatches<'a>) -> Option<CommandLine<'a>>
     Some(CommandLine::Script { file, form })
 }
 
-/// The form that the options ask for, where they ask for one alone. The command has refused all others.
+/// Returns the form that the options ask for, if they ask for only one. The command has refused all others.
 fn form_of(given: &ArgMatches<'_>) -> Option<ScriptForm>
     ensures { IfSome result (IsFormOf (rows_of (found_of given.now))) }
 {
@@ -395,7 +394,7 @@ fn merge_line<'a>(given: &ArgMatches<'a>) -> Option<CommandLine<'a>>
     Some(CommandLine::Merge { json, mean })
 }
 
-/// The form that the options ask for, where they ask for one alone. The command has refused all others.
+/// Returns the form that the options ask for, if they ask for only one. The command has refused all others.
 fn schedule_form_of(given: &ArgMatches<'_>) -> Option<ScheduleForm>
     ensures { IfSome result (IsScheduleFormOf (rows_of (found_of given.now))) }
 {
@@ -541,7 +540,7 @@ fn what_if_line<'a>(given: &ArgMatches<'a>) -> Option<CommandLine<'a>>
     })
 }
 
-/// The form that the options ask for, where they ask for one alone. The command has refused all others.
+/// Returns the form that the options ask for, if they ask for only one. The command has refused all others.
 fn what_if_form_of(given: &ArgMatches<'_>) -> Option<WhatIfForm>
     ensures { IfSome result (IsWhatIfFormOf (rows_of (found_of given.now))) }
 {
@@ -646,14 +645,14 @@ fn model_cores_of(given: &ArgMatches<'_>) -> Option<ModelCores>
     }
 }
 
-/// The number that an option has, by itself or because nothing else was given.
+/// Returns the number of an option, given or by default.
 fn number_of(given: &ArgMatches<'_>, name: &str) -> Option<u64>
     ensures { IfSome result (IsNumberOf name.now (rows_of (found_of given.now))) }
 {
     given.get_one::<u64>(name)
 }
 
-/// The number that an option was given, if it was given one.
+/// Returns the number that an option was given, if it was given one.
 fn number_if_given(given: &ArgMatches<'_>, name: &str) -> Option<Option<u64>>
     ensures { IfSome result (IsNumberIfGiven name.now (rows_of (found_of given.now))) }
 {
@@ -663,14 +662,14 @@ fn number_if_given(given: &ArgMatches<'_>, name: &str) -> Option<Option<u64>>
     Some(Some(number_of(given, name)?))
 }
 
-/// The text that an argument has.
+/// Returns the text of an argument.
 fn text_of<'a>(given: &ArgMatches<'a>, name: &str) -> Option<&'a str>
     ensures { IfSome result (λ text. first_of name.now (rows_of (found_of given.now)) ≡ Some text.now) }
 {
     given.get_str(name)
 }
 
-/// The text that an option was given first, if it was given one.
+/// Returns the first text that an option was given, if it was given one.
 fn text_if_given<'a>(given: &ArgMatches<'a>, name: &str) -> Option<&'a str>
     ensures { option_map (λ text. text.now) result ≡ first_of name.now (rows_of (found_of given.now)) }
 {

@@ -3,11 +3,11 @@
 pub enum ModelForm {
     /// A model of some cores, for model checkers.
     Murphi,
-    /// Queries of any number of cores, for SMT solvers.
+    /// Queries for any number of cores, for SMT solvers.
     Smt,
 }
 
-/// How many cores an exported model has.
+/// The number of cores of an exported model.
 #[derive(Clone, Copy, Debug, PartialEq, Eq)]
 pub enum ModelCores {
     Two,
@@ -19,7 +19,7 @@ impl ModelCores {
     ghost use Rattle.std.specs.Prelude.{◌≡◌, ◌≤◌};
     ghost use Rattle.litmus_command_line.specs.CommandLine.{number_of};
 
-    /// Their number.
+    /// Returns their number.
     pub const fn number(self) -> u8
         ensures number { result ≡ number_of self }
         ensures few { result ≤ 4 }

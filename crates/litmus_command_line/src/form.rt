@@ -3,11 +3,11 @@
 pub enum ScriptForm {
     /// Its answers: with `echo` each after its command's line, and with `explain` each before what happened.
     Answers { echo: bool, explain: bool },
-    /// Each answer beside its command's line.
+    /// Each answer next to its command's line.
     Beside { explain: bool },
     /// Waves, and no answers.
     Waves,
-    /// Each command with its answer and what happened as a value of JSON.
+    /// Each command with its answer and what happened as a JSON value.
     Json,
     /// How often each cell of the protocol's tables was met, and no answers.
     Coverage,
@@ -18,9 +18,9 @@ pub enum ScriptForm {
 /// How a schedule is printed.
 #[derive(Clone, Copy, Debug, PartialEq, Eq)]
 pub enum ScheduleForm {
-    /// What came of it: the outcomes of rounds, or the report of a run; with `json` as a value of JSON.
+    /// Its result: the outcomes of rounds, or the report of a run; with `json` as a JSON value.
     Report { json: bool },
-    /// What was asked of the machine, as a script.
+    /// The commands to the machine, as a script.
     Script,
     /// That script's page.
     Page,
@@ -35,7 +35,7 @@ pub enum ScheduleForm {
 pub enum WhatIfForm {
     /// As text.
     Text,
-    /// As one value of JSON.
+    /// As one JSON value.
     Json,
     /// As a picture in SVG.
     Svg,

@@ -1,9 +1,9 @@
 //! Reads the command line of the program `lockup`, by `clap`.
 //!
-//! [`read_line`] reads what the program's words ask for. Where it answers a [`CommandLine`], each of
-//! its parts is what `clap` reads of the words, as specs/CommandLine.antt says. [`read_settings`] reads
-//! the settings of a line that asks for rows, and [`read_files`] the files of one that asks for a sum, or that
-//! puts parts or rows together, of which there may be any number.
+//! [`read_line`] reads the program's words. If it returns a [`CommandLine`], each of its parts is what
+//! `clap` reads of the words, as specs/CommandLine.antt says. [`read_settings`] reads the settings of a
+//! line that asks for rows, and [`read_files`] the files of one that asks for a sum, or that joins parts
+//! or rows. There may be any number of them.
 #![tactic(auto)]
 
 pub use command_line::{CommandLine, read_files, read_line, read_settings};

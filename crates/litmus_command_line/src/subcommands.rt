@@ -1,4 +1,4 @@
-//! The program's subcommands, a file a family, and what builds them.
+//! The program's subcommands, one file per family, and what builds them.
 ghost use Rattle.std.specs.Prelude.{◌≡◌, map, IfOk, IsOkAnd};
 ghost use Rattle.clap.specs.Words.{app_of, new_app};
 ghost use Rattle.litmus_command_line.specs.Parameters.{rule_of_parameter};
@@ -20,10 +20,10 @@ mod scripts;
 mod tables;
 mod verdicts;
 
-/// What `--explain` does where it says nothing of answers.
+/// What `--explain` does if it isn't about answers.
 const EXPLAIN_ERROR: &str = "Explain an error: what could stand there, or why FILE can't be read";
 
-/// The program with its subcommands, and the options of each.
+/// Builds the program with its subcommands, and the options of each.
 pub(crate) fn lockup<'a>(alloc: Global) -> Result<Command<'a>, AllocError>
     ensures { IfOk result (λ c. IsLockup (app_of c)) }
 {
@@ -45,7 +45,7 @@ pub(crate) fn lockup<'a>(alloc: Global) -> Result<Command<'a>, AllocError>
     with(program, export(alloc))
 }
 
-/// The program without its subcommands, of which it asks for one.
+/// Builds the program without its subcommands, of which it requires one.
 fn top<'a>(alloc: Global) -> Command<'a>
     ensures { app_of result ≡ top_app }
 {
@@ -56,10 +56,10 @@ fn top<'a>(alloc: Global) -> Command<'a>
         .subcommand_required(true)
 }
 
-// What adds one thing after another hands on what was made so far, and whether there was memory for
-// it: were each step to end early, all that was made before would be dropped on each way out.
+// The builder passes on a `Result` with what was made so far: an early return at each step would have
+// to drop all that was made before at every exit.
 
-/// The program with one more subcommand.
+/// Adds a subcommand to the program.
 fn with<'a>(
     program: Result<Command<'a>, AllocError>,
     made: Result<Command<'a>, AllocError>,
@@ -70,7 +70,7 @@ fn with<'a>(
     program?.subcommand(made?)
 }
 
-/// A subcommand with these parameters.
+/// Builds a subcommand with these parameters.
 fn subcommand<'a>(
     alloc: Global,
     name: &'a str,

@@ -7,7 +7,7 @@ pub enum Table {
     Directory,
 }
 
-/// The files of tables that are in place of ours.
+/// The files of tables that replace ours.
 #[derive(Clone, Copy, Debug, PartialEq, Eq)]
 pub struct TableFiles<'a> {
     pub cache: Option<&'a str>,

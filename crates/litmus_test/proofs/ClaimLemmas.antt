@@ -83,7 +83,7 @@ leave_nothing words left word done all none h whole =
     let q = split_claim word left p.0 p.1.1 in
     none q.0.0 q.0.1 q.1.1.1
 
--- the words after the first i
+-- the texts of words, and those after the first i
 abbrev texts : List (Bor (List ℕ)) → List (List ℕ)
 texts words = map (λ w. w.now) words
 

@@ -1,4 +1,4 @@
--- What is wrong with words of which so many were to be numbers.
+-- What is wrong with words that were to be zero, one or two numbers.
 use Rattle.std.proofs.Common.{◌≡◌, ℕ, List, [], ◌∷◌, length, arith, refl}
 use Rattle.litmus_text.specs.Form.{IsFaultOf, IsFormFaultOf, no_parts, one_part, two_parts}
 use Rattle.litmus_text.specs.declared.fault.LineFault.{LineFault}

@@ -1,8 +1,8 @@
 //! The outcomes of a litmus test's rounds: which requests they come from, how often each came, and their table.
 //!
 //! - A [`NamedRequest`] says which request of which core in which slice a named reply answers (`named_request_of` of
-//!   specs/NamedRequest.antt): a slice numbers the requests of a core from 0, in the order of the core's program. Each name
-//!   of a test has one ([`each_name_is_sought`]).
+//!   specs/NamedRequest.antt): a slice numbers the requests of a core from 0, in the order of the core's program. Each
+//!   name of a test has one ([`each_name_is_sought`]).
 //! - [`Outcomes`] counts the outcomes of rounds. Its value is a table; contracts say of which rounds it is the table
 //!   (`IsTableOf` of specs/Table.antt): a row for each outcome, ascending, with how often it came and where first.
 //!   Rounds have exactly one table ([`one_table`]), and its rows' counts add up to the rounds. Adding an outcome is a

@@ -27,7 +27,7 @@ found-at (x ∷ xs) zero found = (x, omega arith, refl, found.0, found.1)
 found-at (x ∷ xs) (suc i) found =
     let (y, there, is, first, second) = found-at xs i found in (y, omega arith, is, first, second)
 
--- What was asked for at a place is there.
+-- What was requested at a place is there.
 pub asked-inside : (asked : List Ask) (next : ℕ) (word : WordAddr) (op : Op)
     → IsSomeAnd (slice_get asked next) (λ ask. (ask.request.word ≡ word) × (ask.request.op ≡ op)) → next < length asked
 asked-inside asked next word op at_next =

@@ -1,4 +1,4 @@
--- The history of a slice in all receipts: the log that the cores' ports hold is the one that is built from its receipts.
+-- The history of a slice in all receipts: the log that the cores' ports hold is the one built from its receipts.
 use Rattle.std.proofs.Common.{◌≡◌, ℕ, ◌<◌, ◌≤◌, ◌∙◌, List, [], ◌∷◌, ◌++◌, Some, ap, arith, eq-eqb}
 use Rattle.std.proofs.Common.{lt-ltb, refl, subst, sym}
 use Rattle.std.specs.Prelude.{◌==◌, Contains, if◌then◌else◌, slice_get}

@@ -11,7 +11,7 @@ use Rattle.address_map.specs.declared.config.Config.{Config}
 use Rattle.drain.specs.declared.report.CounterValue.{CounterValue}
 use Rattle.slice_log.specs.declared.entry.Entry.{Entry}
 
--- the numbers from this one on, of so many
+-- the numbers from this one on, below a limit
 abbrev pub numbers_from : ℕ → ℕ → List ℕ
 numbers_from number limit = range_with_len number (limit - number)
 

@@ -8,7 +8,7 @@ use Rattle.slice_log.specs.declared.entry.Entry.{Entry}
 abbrev pub IsNumbered : SliceId → ℕ → Receipt → Type 0
 IsNumbered slice number r = (r.slice ≡ slice) × (r.number ≡ number)
 
--- By number, the receipts of the slice are the entries of this log: each has the entry of its number, and none is missing.
+-- By number, the receipts of the slice are the entries of this log: each has the entry of its number, none is missing.
 pub record AreEntriesOf (slice : SliceId) (receipts : List Receipt) (log : List Entry) : Type 0 where
   pub genuine : (r : Receipt) → Contains receipts r → r.slice ≡ slice → slice_get log r.number ≡ Some r.entry
   pub whole : (number : ℕ) → number < length log → (r : Receipt) × Contains receipts r × IsNumbered slice number r

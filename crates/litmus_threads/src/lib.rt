@@ -1,10 +1,10 @@
 //! Litmus tests on real threads.
 //!
 //! - [`run_test`] runs all rounds of a test. Each builds a machine (src/machine.rt); a core that has a thread runs the
-//!   thread's program in a thread of its own, in parallel with those that move messages; then the cores are drained and
-//!   audited. The outcome is taken from the audit (src/found.rt).
-//! - [`play_test`] does so, and writes the table of the outcomes. specs/Run.antt specifies what is written, and the exit
-//!   status.
+//!   thread's program in a thread of its own, in parallel with those that move messages; then the cores are drained
+//!   and audited. The outcome is taken from the audit (src/found.rt).
+//! - [`play_test`] does so, and writes the table of the outcomes. specs/Run.antt specifies what is written, and the
+//!   exit status.
 //! - [`trace_test`] plays one round, and writes each slice's log as a trace, built from the audit's receipts
 //!   (src/log.rt), with comment lines after it (src/notes.rt). specs/Trace.antt specifies what is written.
 //!

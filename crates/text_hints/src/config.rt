@@ -5,7 +5,7 @@ use super::place::{Place, Sizes};
 use address_map::ConfigError;
 use litmus_text::{ConfigLine, Statement, Statements, parse_number};
 
-/// How many counters there may be.
+/// The maximum number of counters.
 const MOST_COUNTERS: usize = 8;
 
 /// The number that isn't allowed, and what is.
@@ -41,7 +41,7 @@ fn last_number<'a>(input: &'a [u8], name: &[u8], allowed: &'static str) -> Optio
     })
 }
 
-/// Whether a line that begins with this word configures, or stands among those that do.
+/// Whether a line that begins with this word configures, or may be among those that do.
 fn is_at_head(name: &[u8]) -> bool {
     matches!(name, b"lockup-litmus" | b"rounds" | b"movers") || ConfigLine::is_named(name)
 }
@@ -85,7 +85,7 @@ struct Before {
 }
 
 impl Before {
-    /// What is wanted in place of a word, where it can't come next.
+    /// Returns what is expected instead of a word, if it can't come next.
     fn wanted(self, name: &[u8], word: u64, sizes: Sizes) -> Option<Wanted> {
         if word > sizes.last_word() {
             return Some(Place::Word.wanted(sizes));

@@ -1,4 +1,4 @@
-//! Hints for what each core was answered: histories, and traces in place of them.
+//! Hints for what each core received: histories, and traces instead of them.
 
 use super::misfit::{Head, Misfit, Wanted, WrongLine, name_of};
 use super::place::{Place, Sizes};
@@ -35,7 +35,7 @@ pub(super) fn history_places(name: &[u8]) -> Option<&'static [Place]> {
     }
 }
 
-/// The places after the name of an access: the word, what else it takes, and the reply, but of a store.
+/// The places after the name of an access: the word, its other operands, and the reply, except of a store.
 pub(super) fn history_access_places(name: &[u8]) -> Option<&'static [Place]> {
     match name {
         b"load" | b"store" => Some(&[Place::Word, Place::Number]),

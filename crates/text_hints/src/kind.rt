@@ -1,4 +1,4 @@
-//! What kind of text this is, as far as its first lines tell.
+//! What kind of text this is, as far as its first lines show.
 
 use super::TextKind;
 use super::misfit::name_of;
@@ -11,7 +11,7 @@ pub(super) fn begins_with_mark(input: &[u8]) -> bool {
         || input.starts_with(b"\xfe\xff")
 }
 
-/// Says which command reads a text of this kind.
+/// Returns which command reads a text of this kind.
 pub(super) const fn reader_of(kind: TextKind) -> &'static str {
     match kind {
         TextKind::Script => "the text is a script: 'lockup script' reads it",
@@ -25,7 +25,7 @@ pub(super) const fn reader_of(kind: TextKind) -> &'static str {
     }
 }
 
-/// The kind of a text that was read as one of another kind, and whose line with this number is wrong.
+/// Returns the kind of a text that was read as one of another kind, and whose line with this number is wrong.
 pub(super) fn other_kind(read_as: TextKind, input: &[u8], number: usize) -> Option<TextKind> {
     if read_as == TextKind::Script && wants_answer(input, number) {
         return Some(TextKind::Exercise);
@@ -40,7 +40,7 @@ pub(super) fn other_kind(read_as: TextKind, input: &[u8], number: usize) -> Opti
     }
 }
 
-/// Whether a line of a text has an answer that is wanted.
+/// Whether a line of a text has an expected answer.
 fn wants_answers(input: &[u8]) -> bool {
     for statement in Statements::of(input) {
         if statement.line.contains(&b'=') {
@@ -50,7 +50,7 @@ fn wants_answers(input: &[u8]) -> bool {
     false
 }
 
-/// Whether the line with this number has an answer that is wanted.
+/// Whether the line with this number has an expected answer.
 fn wants_answer(input: &[u8], number: usize) -> bool {
     for statement in Statements::of(input) {
         if statement.number == number {
@@ -60,7 +60,7 @@ fn wants_answer(input: &[u8], number: usize) -> bool {
     false
 }
 
-/// The kind of a text, unless the line with this number follows the first that doesn't configure.
+/// Returns the kind of a text, unless the line with this number follows the first that doesn't configure.
 fn kind_up_to(input: &[u8], number: usize) -> Option<TextKind> {
     let mut first = None;
     for statement in Statements::of(input) {
@@ -75,8 +75,8 @@ fn kind_up_to(input: &[u8], number: usize) -> Option<TextKind> {
     kind_of(first?, &[])
 }
 
-/// The kind of a text by the words that begin its first line that doesn't configure and the next. `core 0` may also be
-/// meant to configure: it begins a program where a line of one follows.
+/// Returns the kind of a text by the first words of its first line that doesn't configure and of the next. `core 0` may
+/// also be meant to configure: it begins a program if a line of one follows.
 fn kind_of(first: &[u8], next: &[u8]) -> Option<TextKind> {
     match first {
         b"lockup-trace" | b"entry" => Some(TextKind::Trace),

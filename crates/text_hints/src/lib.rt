@@ -1,7 +1,7 @@
-//! What a reader of an error may want to know: what could stand at a place, which line is in the way, or which
-//! command reads such a text.
+//! What a reader of an error may want to know: what could be at a place, which line conflicts, or which command reads
+//! such a text.
 //!
-//! These are hints, and no contract says which: `tests/suite/hints.py` tries them.
+//! These are hints, and no contract says which: `tests/suite/hints.py` tests them.
 #![tactic(auto)]
 
 ghost use Rattle.std.specs.Prelude.{IfSome};
@@ -27,16 +27,16 @@ mod trace_line;
 #[derive(Clone, Copy, Debug, PartialEq, Eq)]
 pub enum TextKind {
     Script,
-    /// A script with wanted answers.
+    /// A script with expected answers.
     Exercise,
     LitmusTest,
     Programs,
     Trace,
-    /// What each core was answered, without an order between cores: a history, or a trace.
+    /// What each core received, without an order between cores: a history, or a trace.
     History,
 }
 
-/// Returns what may help the reader of this error, of a text that was read as one of this kind; `None` also where an
+/// Returns what may help the reader of this error, of a text that was read as one of this kind; `None` also if an
 /// allocation fails.
 pub fn hint(alloc: Global, read_as: TextKind, input: &[u8], fault: TextFault) -> Option<String>
     ensures { IfSome result (λ hint. IsOfText fault) }
@@ -83,7 +83,7 @@ fn hint_of_line(
     }
 }
 
-/// An exercise is judged as the script in it.
+/// Returns the hint for an exercise: that for the script in it.
 fn hint_of_exercise(alloc: Global, input: &[u8], fault: TextFault) -> Option<String> {
     let Ok(script) = script_of(alloc, input) else {
         return None;

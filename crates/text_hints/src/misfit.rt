@@ -5,7 +5,7 @@ use litmus_text::{ConfigLine, LineFault, Statement, Statements};
 use std::fmt;
 use std::str::from_utf8;
 
-/// A line at fault, with the text that it is in.
+/// An invalid line, with the text that it is in.
 #[derive(Clone, Copy)]
 pub(super) struct WrongLine<'a, 'b> {
     pub input: &'a [u8],
@@ -14,7 +14,7 @@ pub(super) struct WrongLine<'a, 'b> {
     pub fault: LineFault,
 }
 
-/// What was found where something else was wanted.
+/// What was found where something else was expected.
 #[derive(Clone, Copy)]
 pub(super) enum Found<'a> {
     Word(&'a [u8]),
@@ -23,10 +23,10 @@ pub(super) enum Found<'a> {
     End,
 }
 
-/// What was wanted there.
+/// What was expected there.
 #[derive(Clone, Copy)]
 pub(super) enum Wanted {
-    /// This, between two numbers where they are bounded.
+    /// This, between two numbers if they are bounded.
     Place(Place, Option<(u64, u64)>),
     End,
     /// As the text says.
@@ -52,7 +52,7 @@ pub(super) struct Head {
     pub numbers: &'static str,
 }
 
-/// The first word of a line.
+/// Returns the first word of a line.
 pub(super) fn name_of<'a>(words: &[&'a [u8]]) -> &'a [u8] {
     match words.first() {
         Some(name) => name,
@@ -61,23 +61,23 @@ pub(super) fn name_of<'a>(words: &[&'a [u8]]) -> &'a [u8] {
 }
 
 impl<'a> WrongLine<'a, '_> {
-    /// The line's first word.
+    /// Returns the line's first word.
     pub(super) fn name(self) -> &'a [u8] {
         name_of(self.words)
     }
 
-    /// The word at this place, from 0.
+    /// Returns the word at this place, from 0.
     pub(super) fn word(self, place: usize) -> Option<&'a [u8]> {
         let word = self.words.get(place)?;
         Some(*word)
     }
 
-    /// Whether the line is to configure, and is malformed.
+    /// Whether the line is a malformed line that configures.
     pub(super) fn is_malformed_setting(self) -> bool {
         ConfigLine::is_named(self.name()) && ConfigLine::parse(self.words).is_err()
     }
 
-    /// Whether a statement stands before this line.
+    /// Whether a statement comes before this line.
     pub(super) fn is_behind(self, statement: &Statement<'_>) -> bool {
         statement.number < self.number
     }
@@ -95,8 +95,8 @@ impl<'a> WrongLine<'a, '_> {
         false
     }
 
-    /// The first word that can't stand where it does, or the line's end where a word is missing. The line begins at
-    /// the first of these places.
+    /// Returns the first misplaced word, or the line's end if a word is missing. The line begins at the first of
+    /// these places.
     pub(super) fn first_misfit(self, first: &'static [Place], sizes: Sizes) -> Option<Misfit<'a>> {
         let mut places = first;
         for word in self.words {
@@ -123,7 +123,7 @@ impl<'a> WrongLine<'a, '_> {
         })
     }
 
-    /// The line's first word, which can't stand here for this reason.
+    /// Returns the line's first word, which can't be here for this reason.
     pub(super) fn misplaced(self, wanted: Wanted) -> Misfit<'a> {
         Misfit {
             found: Found::Word(self.name()),
@@ -131,7 +131,7 @@ impl<'a> WrongLine<'a, '_> {
         }
     }
 
-    /// The word at this place, which can't stand here for this reason.
+    /// Returns the word at this place, which can't be here for this reason.
     pub(super) fn misfit_at(self, place: usize, wanted: Wanted) -> Option<Misfit<'a>> {
         Some(Misfit {
             found: Found::Word(self.word(place)?),
@@ -139,7 +139,7 @@ impl<'a> WrongLine<'a, '_> {
         })
     }
 
-    /// The first word that a first line can't have, where its number is one of those that it can.
+    /// Returns the first word that a first line can't have, if `has_number` says that its number is one that it can.
     pub(super) fn head_misfit(self, head: Head, has_number: bool) -> Option<Misfit<'a>> {
         if self.name() != head.name {
             return Some(self.misplaced(Wanted::Text(head.forms)));
@@ -177,7 +177,7 @@ impl fmt::Display for Misfit<'_> {
     }
 }
 
-/// Writes a word, where all of it is printed.
+/// Writes a word, if all of it is printable.
 fn write_word<W: fmt::Write>(word: &[u8], f: &mut fmt::Formatter<W>) -> fmt::Result {
     match from_utf8(word) {
         Ok(text) if word.iter().all(|byte| byte.is_ascii_graphic()) => write!(f, "'{text}'"),

@@ -1,4 +1,4 @@
-//! What can stand at a place of a line.
+//! What can be at a place of a line.
 
 use super::history_line::{history_access_places, history_places};
 use super::misfit::Wanted;
@@ -11,7 +11,7 @@ use super::trace_line::{
 use litmus_text::{LineFault, Statements, parse_number};
 use std::fmt;
 
-/// What can stand at a place of a line that isn't of a script.
+/// What can be at a place of a line that isn't of a script.
 #[derive(Clone, Copy, Debug, PartialEq, Eq)]
 pub(super) enum Place {
     /// What a line of programs begins with.
@@ -27,7 +27,7 @@ pub(super) enum Place {
     Access,
     OldAccess,
     BareAccess,
-    /// What a line of a history begins with, and what a core asked for in one.
+    /// What a line of a history begins with, and what a core requested in one.
     HistoryName,
     HistoryAccess,
     Core,
@@ -45,7 +45,7 @@ pub(super) enum Place {
     Reply,
 }
 
-/// How many cores and lines a text may name.
+/// The number of cores and lines that a text may name.
 #[derive(Clone, Copy)]
 pub(super) struct Sizes {
     pub cores: u64,
@@ -53,7 +53,7 @@ pub(super) struct Sizes {
 }
 
 impl Sizes {
-    /// Those of the machine that a text configures before the line with this number.
+    /// Returns those of the machine that a text configures before the line with this number.
     pub(super) fn before(input: &[u8], number: usize) -> Self {
         let mut sizes = Sizes {
             cores: 2,
@@ -84,14 +84,14 @@ impl Sizes {
         }
     }
 
-    /// The greatest word, where it is that of the last line.
+    /// Returns the greatest word, if it is that of the last line.
     pub(super) fn last_word(self) -> u64 {
         self.lines.saturating_mul(8).saturating_sub(1)
     }
 }
 
 impl Place {
-    /// What follows a word, where it can stand here as far as this fault goes.
+    /// Returns what follows a word, if it can be here as far as this fault goes.
     pub(super) fn behind(
         self,
         rest: &'static [Place],
@@ -116,7 +116,7 @@ impl Place {
         }
     }
 
-    /// Whether a name or a number can stand here, as far as this fault goes.
+    /// Whether a name or a number can be here, as far as this fault goes.
     fn takes(self, word: &[u8], fault: LineFault, sizes: Sizes) -> bool {
         if let Place::Reply = self {
             return is_reply(word);
@@ -128,7 +128,7 @@ impl Place {
         }
     }
 
-    /// The first and the last number that a word spells.
+    /// Returns the first and the last number that a word spells.
     fn numbers(self, word: &[u8]) -> Option<(u64, u64)> {
         if let Place::Range = self {
             return range_of(word);
@@ -151,7 +151,7 @@ impl Place {
         }
     }
 
-    /// The least and the greatest number that can stand here, where it isn't any.
+    /// Returns the least and the greatest number that can be here, unless any can.
     fn bounds(self, sizes: Sizes) -> Option<(u64, u64)> {
         match self {
             Place::Core => Some((0, sizes.cores.saturating_sub(1))),
@@ -166,12 +166,12 @@ impl Place {
         }
     }
 
-    /// That this is wanted.
+    /// Returns this as what was expected.
     pub(super) fn wanted(self, sizes: Sizes) -> Wanted {
         Wanted::Place(self, self.bounds(sizes))
     }
 
-    /// The place in words.
+    /// Returns the place in words.
     const fn text(self) -> &'static str {
         match self {
             Place::ProgramName => {
@@ -206,7 +206,7 @@ impl fmt::Display for Place {
     }
 }
 
-/// The words of a range, the first and the last.
+/// Returns the words of a range, the first and the last.
 pub(super) fn range_of(text: &[u8]) -> Option<(u64, u64)> {
     match text.iter().position(|byte| *byte == b'.') {
         Some(at) => span_of(text, at),

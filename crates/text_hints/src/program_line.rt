@@ -5,7 +5,7 @@ use super::place::{Place, Sizes, range_of};
 use arrayvec::ArrayVec;
 use litmus_text::{LineFault, Statement, Statements, parse_number};
 
-/// How deep blocks may stand in one another.
+/// The maximum nesting depth of blocks.
 const MOST_DEPTH: usize = 8;
 
 /// The places after a word that a line begins with.
@@ -23,7 +23,7 @@ pub(super) fn program_places(name: &[u8]) -> Option<&'static [Place]> {
     }
 }
 
-/// The word at which a line of programs is wrong.
+/// Returns the word at which a line of programs is wrong.
 pub(super) fn misfit<'a>(line: WrongLine<'a, '_>) -> Option<Misfit<'a>> {
     match line.fault {
         LineFault::LateConfiguration => Some(line.misplaced(place_of_setting(line.name()))),
@@ -49,7 +49,7 @@ fn misfit_of_form<'a>(line: WrongLine<'a, '_>) -> Option<Misfit<'a>> {
     }
 }
 
-/// Why a well-formed line can't stand where it does.
+/// Returns why a well-formed line can't be where it is.
 fn misfit_of_place<'a>(line: WrongLine<'a, '_>) -> Option<Misfit<'a>> {
     match line.fault {
         LineFault::NotACommand => Some(line.misplaced(misplaced(line)?)),
@@ -74,7 +74,7 @@ fn misplaced(line: WrongLine<'_, '_>) -> Option<Wanted> {
     }
 }
 
-/// What there is too much of.
+/// Returns what there is too much of.
 fn too_much<'a>(line: WrongLine<'a, '_>) -> Option<Misfit<'a>> {
     match line.name() {
         b"core" => line.misfit_at(
@@ -106,7 +106,7 @@ fn descends(line: WrongLine<'_, '_>) -> bool {
     }
 }
 
-/// The lines of the blocks that are open before this line.
+/// Returns the lines of the blocks that are open before this line.
 fn open_blocks(line: WrongLine<'_, '_>) -> ArrayVec<usize, MOST_DEPTH> {
     let mut open = ArrayVec::new();
     for statement in Statements::of(line.input) {
@@ -118,7 +118,7 @@ fn open_blocks(line: WrongLine<'_, '_>) -> ArrayVec<usize, MOST_DEPTH> {
     open
 }
 
-// Before its line at fault no text has more open blocks than there is room for.
+// Before its invalid line no text has more open blocks than there is room for.
 fn note_block(open: &mut ArrayVec<usize, MOST_DEPTH>, statement: &Statement<'_>) {
     match name_of(statement.words.as_slice()) {
         b"repeat" => {
@@ -131,12 +131,12 @@ fn note_block(open: &mut ArrayVec<usize, MOST_DEPTH>, statement: &Statement<'_>)
     }
 }
 
-/// The line that begins the program of the same core.
+/// Returns the line that begins the program of the same core.
 fn first_of_core(line: WrongLine<'_, '_>) -> Option<usize> {
     line_with_number(line.input, b"core", parse_number(line.word(1)?)?)
 }
 
-/// The first line of a text that is a name and this number.
+/// Returns the first line of a text that is a name and this number.
 pub(super) fn line_with_number(input: &[u8], name: &[u8], number: u64) -> Option<usize> {
     for statement in Statements::of(input) {
         if number_behind(statement.words.as_slice(), name) == Some(number) {
@@ -146,7 +146,7 @@ pub(super) fn line_with_number(input: &[u8], name: &[u8], number: u64) -> Option
     None
 }
 
-/// The number of a line that is a name and a number.
+/// Returns the number of a line that is a name and a number.
 fn number_behind(words: &[&[u8]], name: &[u8]) -> Option<u64> {
     let [first, number] = words else {
         return None;
@@ -158,7 +158,7 @@ fn number_behind(words: &[&[u8]], name: &[u8]) -> Option<u64> {
     }
 }
 
-/// The line that makes a counter of a word of the line's range.
+/// Returns the line that makes a counter of a word of the line's range.
 fn counter(line: WrongLine<'_, '_>) -> Option<usize> {
     let (first, last) = range_of(line.word(1)?)?;
     for statement in Statements::of(line.input) {

@@ -5,7 +5,7 @@ use super::place::{Place, Sizes, is_reply};
 use super::program_line::line_with_number;
 use litmus_text::{LineFault, Statements, parse_number};
 
-/// How many pairs a line may forbid.
+/// The maximum number of pairs that a line may forbid.
 const MOST_PAIRS: usize = 16;
 
 /// A first line.
@@ -15,7 +15,7 @@ const HEAD: Head = Head {
     numbers: "1 or 2",
 };
 
-/// The places after a word that a line begins with, but `forbid`, whose words are judged by themselves.
+/// The places after a word that a line begins with, except `forbid`, whose words are checked separately.
 pub(super) fn test_places(name: &[u8]) -> Option<&'static [Place]> {
     match name {
         b"cas" => Some(&[Place::Word, Place::Number, Place::Number, Place::Reply]),
@@ -38,7 +38,7 @@ pub(super) fn old_test_places(name: &[u8]) -> Option<&'static [Place]> {
     }
 }
 
-/// The word at which a line of a litmus test is wrong.
+/// Returns the word at which a line of a litmus test is wrong.
 pub(super) fn misfit<'a>(line: WrongLine<'a, '_>) -> Option<Misfit<'a>> {
     match line.fault {
         LineFault::NotALitmusText => line.head_misfit(HEAD, has_version(line)),
@@ -79,7 +79,7 @@ fn misfit_of_form<'a>(line: WrongLine<'a, '_>) -> Option<Misfit<'a>> {
     }
 }
 
-/// What a line may begin with: that is told by the first.
+/// Returns what a line may begin with, which depends on the first line.
 fn names_of(input: &[u8]) -> &'static [Place] {
     let Some(first) = Statements::of(input).next() else {
         return &[Place::OldTestName];
@@ -90,7 +90,7 @@ fn names_of(input: &[u8]) -> &'static [Place] {
     }
 }
 
-/// The first pair that is malformed, or the end where there is none, or what follows the last.
+/// Returns the first malformed pair, or the end if there is none, or what follows the last.
 fn forbid_misfit<'a>(line: WrongLine<'a, '_>) -> Option<Misfit<'a>> {
     let wanted = Wanted::Text("NAME=VALUE");
     if line.words.len() < 2 {
@@ -121,7 +121,7 @@ fn is_pair(word: &[u8], fault: LineFault) -> bool {
     }
 }
 
-/// What stands on either side of the first `=`.
+/// Returns the two sides of the first `=`.
 fn sides_of(word: &[u8]) -> Option<(&[u8], &[u8])> {
     let at = word.iter().position(|byte| *byte == b'=')?;
     let [_, value @ ..] = word.get(at..)? else {
@@ -130,7 +130,7 @@ fn sides_of(word: &[u8]) -> Option<(&[u8], &[u8])> {
     Some((word.get(..at)?, value))
 }
 
-/// Why a well-formed line can't stand where it does.
+/// Returns why a well-formed line can't be where it is.
 fn misfit_of_place<'a>(line: WrongLine<'a, '_>) -> Option<Misfit<'a>> {
     match line.fault {
         LineFault::NotACommand => Some(line.misplaced(misplaced(line))),
@@ -147,7 +147,7 @@ fn misplaced(line: WrongLine<'_, '_>) -> Wanted {
     })
 }
 
-/// What there is too much of.
+/// Returns what there is too much of.
 fn too_much<'a>(line: WrongLine<'a, '_>) -> Option<Misfit<'a>> {
     if line.name() != b"thread".as_slice() {
         return Some(line.misplaced(Wanted::Text("a thread has at most 4096 steps")));
@@ -157,12 +157,12 @@ fn too_much<'a>(line: WrongLine<'a, '_>) -> Option<Misfit<'a>> {
     line.misfit_at(1, Wanted::Line("the core has a thread, in line", first))
 }
 
-/// The line's last word, which is its name.
+/// Returns the line's last word, which is its name.
 fn name_misfit<'a>(line: WrongLine<'a, '_>, wanted: Wanted) -> Option<Misfit<'a>> {
     line.misfit_at(line.words.len().checked_sub(1)?, wanted)
 }
 
-/// The line of the first step that has the same name as this one.
+/// Returns the line of the first step that has the same name as this one.
 fn step(line: WrongLine<'_, '_>) -> Option<usize> {
     step_named(line.input, line.words.last()?)
 }
@@ -184,7 +184,7 @@ fn is_named(words: &[&[u8]], name: &[u8]) -> bool {
     matches!(name_of(words), b"load" | b"add" | b"cas") && *last == name
 }
 
-/// The first pair of a name that no step has.
+/// Returns the first pair with a name that no step has.
 fn unknown_misfit<'a>(line: WrongLine<'a, '_>) -> Option<Misfit<'a>> {
     for (place, word) in line.words.iter().enumerate() {
         if is_of_no_step(line.input, word) {

@@ -29,7 +29,7 @@ pub(super) fn old_trace_places(name: &[u8]) -> Option<&'static [Place]> {
     }
 }
 
-/// .. in a trace that doesn't say how long the log was.
+/// .. in a trace that doesn't give the log's length.
 pub(super) fn bare_trace_places(name: &[u8]) -> Option<&'static [Place]> {
     match name {
         b"entry" => Some(&[Place::Core, Place::Number, Place::Tag, Place::BareAccess]),
@@ -37,7 +37,7 @@ pub(super) fn bare_trace_places(name: &[u8]) -> Option<&'static [Place]> {
     }
 }
 
-/// The places after the name of an access: the word, what else it takes, the reply and how long the log was.
+/// The places after the name of an access: the word, its other operands, the reply and the log's length.
 pub(super) fn access_places(name: &[u8]) -> Option<&'static [Place]> {
     match name {
         b"cas" => Some(&[
@@ -60,7 +60,7 @@ pub(super) fn old_access_places(name: &[u8]) -> Option<&'static [Place]> {
     }
 }
 
-/// .. in a trace that doesn't say how long the log was.
+/// .. in a trace that doesn't give the log's length.
 pub(super) fn bare_access_places(name: &[u8]) -> Option<&'static [Place]> {
     match name {
         b"load" => Some(&[Place::Word, Place::Number]),
@@ -70,7 +70,7 @@ pub(super) fn bare_access_places(name: &[u8]) -> Option<&'static [Place]> {
     }
 }
 
-/// The word at which a line of a trace is wrong.
+/// Returns the word at which a line of a trace is wrong.
 pub(super) fn misfit<'a>(line: WrongLine<'a, '_>) -> Option<Misfit<'a>> {
     if let LineFault::NotATrace = line.fault {
         return line.head_misfit(HEAD, has_version(line));
@@ -103,7 +103,7 @@ const fn names_of(version: Version) -> &'static [Place] {
     }
 }
 
-/// What a trace may name.
+/// Returns what a trace may name.
 const fn sizes_of(version: Version) -> Sizes {
     let cores = match version {
         Version::One => 16,
@@ -115,7 +115,7 @@ const fn sizes_of(version: Version) -> Sizes {
     }
 }
 
-/// Why a well-formed value to begin with can't stand where it does.
+/// Returns why a well-formed initial value can't be where it is.
 fn misplaced<'a>(line: WrongLine<'a, '_>) -> Option<Misfit<'a>> {
     if line.is_behind_a(b"entry") {
         return Some(line.misplaced(Wanted::Text("before the first entry")));
@@ -126,7 +126,7 @@ fn misplaced<'a>(line: WrongLine<'a, '_>) -> Option<Misfit<'a>> {
     )
 }
 
-/// The last line before this one that says what a word begins with.
+/// Returns the last line before this one that gives a word's initial value.
 fn last_before(line: WrongLine<'_, '_>) -> Option<usize> {
     let mut last = None;
     for statement in Statements::of(line.input) {

@@ -17,7 +17,7 @@ use Rattle.trace_check.specs.declared.verdict.Reason.TheVariants as reasons
 use Rattle.trace_check.specs.declared.verdict.Verdict.{Verdict}
 use Rattle.trace_check.specs.declared.verdict.Verdict.TheVariants as verdicts
 
--- the exit status: 0 where the trace is legal, and 1 where it isn't
+-- the exit status: 0 if the trace is legal, and 1 if it isn't
 abbrev pub status_of : Verdict → ℕ
 status_of (verdicts.Legal entries) = 0
 status_of (verdicts.Illegal entry reason) = 1
@@ -27,19 +27,19 @@ text_of_reason reasons.Reply = codes "reply"
 text_of_reason reasons.Order = codes "order"
 text_of_reason reasons.Since = codes "since"
 
--- the line that tells the verdict, and after an entry at fault more about it
+-- the line with the verdict, and after an invalid entry more about it
 abbrev pub text_of_verdict : List ℕ → Verdict → List ℕ
 text_of_verdict more (verdicts.Legal entries) = codes "legal " ++ (decimal entries ++ codes " entries\n")
 text_of_verdict more (verdicts.Illegal entry reason) =
     codes "illegal entry "
     ++ (decimal entry ++ (codes ": " ++ (text_of_reason reason ++ (more ++ codes "\n"))))
 
--- the entry that wrote a word, where one did
+-- the entry that wrote a word, if one did
 abbrev pub text_of_writer : Source → List ℕ
 text_of_writer (sources.Entry entry) = decimal entry.number
 text_of_writer source = codes "null"
 
--- what was expected of an entry at fault, as members of an object
+-- what was expected of an invalid entry, as members of an object
 abbrev pub members_of_cause : Cause → List ℕ
 members_of_cause causes.Store = codes ",\"expected\":\"0\""
 members_of_cause (causes.Value expected source) =
@@ -52,7 +52,7 @@ abbrev pub members_of : Option WrongEntry → List ℕ
 members_of None = []
 members_of (Some wrong) = codes ",\"line\":" ++ (decimal wrong.line ++ members_of_cause wrong.cause)
 
--- the value of JSON that tells the verdict, and what was expected of an entry at fault
+-- the JSON value with the verdict, and what was expected of an invalid entry
 abbrev pub json_of_verdict : Option WrongEntry → Verdict → List ℕ
 json_of_verdict wrong (verdicts.Legal entries) =
     codes "{\"legal\":true,\"entries\":" ++ (decimal entries ++ codes "}\n")
@@ -61,7 +61,7 @@ json_of_verdict wrong (verdicts.Illegal entry reason) =
     ++ (decimal entry
     ++ (codes ",\"reason\":\"" ++ (text_of_reason reason ++ (codes "\"" ++ (members_of wrong ++ codes "}\n")))))
 
--- the text is a trace, what it comes to is printed, and the status is that of it
+-- the text is a trace, its verdict is printed, and the status is that of the verdict
 pub record IsChecked (text : List ℕ) (told : Verdict → List ℕ) (before after : Option (List ℕ))
     (status : ℕ) : Type 0 where
   pub verdict : Verdict
@@ -69,18 +69,18 @@ pub record IsChecked (text : List ℕ) (told : Verdict → List ℕ) (before aft
   pub printed : Appends before after (told verdict)
   pub is : status ≡ status_of verdict
 
--- .. with more about an entry at fault, of which nothing is said here
+-- .. with more about an invalid entry, which isn't specified here
 abbrev pub IsExplained : List ℕ → Option (List ℕ) → Option (List ℕ) → ℕ → Type 0
 IsExplained text before after status =
     (more : List ℕ) × IsChecked text (text_of_verdict more) before after status
 
--- .. as JSON, whose members have these names; which line, value and entry they name isn't said here
+-- .. as JSON, whose members have these names; which line, value and entry they name isn't specified here
 abbrev pub IsCheckedAsJson : List ℕ → Option (List ℕ) → Option (List ℕ) → ℕ → Type 0
 IsCheckedAsJson text before after status =
     (wrong : Option WrongEntry) × IsChecked text (json_of_verdict wrong) before after status
 
--- Why a trace wasn't judged: there was no memory, its verdict couldn't be written, or the text is no trace. Then the
--- fault names the first line at fault and says what is wrong with it.
+-- Why a trace wasn't judged: memory ran out, its verdict couldn't be written, or the text is no trace. Then the fault
+-- names the first invalid line and says what is wrong with it.
 abbrev pub IsNotChecked : List ℕ → TextFault → Type 0
 IsNotChecked text fault =
     IsOfRun fault

@@ -22,7 +22,7 @@ pub fn run_check<W: Write>(alloc: Global, input: &[u8], out: &mut W) -> Result<u
     Ok(status_of(verdict))
 }
 
-/// Judges a trace, and prints the verdict as a line of text, with what was expected of an entry at fault. Returns the
+/// Judges a trace, and prints the verdict as a line of text, with what was expected of an invalid entry. Returns the
 /// exit status.
 pub fn run_check_explained<W: Write>(
     alloc: Global,
@@ -38,7 +38,7 @@ pub fn run_check_explained<W: Write>(
     Ok(status_of(verdict))
 }
 
-/// Judges a trace, and prints the verdict as a value of JSON, with what was expected of an entry at fault. Returns the
+/// Judges a trace, and prints the verdict as a JSON value, with what was expected of an invalid entry. Returns the
 /// exit status.
 pub fn run_check_json<W: Write>(alloc: Global, input: &[u8], out: &mut W) -> Result<u8, TextFault>
     ensures checked { IfOk result (IsCheckedAsJson input.now (W.contents out.old) (W.contents out.new)) }
@@ -50,7 +50,7 @@ pub fn run_check_json<W: Write>(alloc: Global, input: &[u8], out: &mut W) -> Res
     Ok(status_of(verdict))
 }
 
-/// The entry at fault, if the trace isn't legal.
+/// Returns the first invalid entry, if the trace isn't legal.
 fn wrong_entry_of(
     alloc: Global,
     input: &[u8],
@@ -62,7 +62,7 @@ fn wrong_entry_of(
     }
 }
 
-/// What follows an entry's reason: what was expected of it.
+/// Returns what follows an entry's reason: what was expected of it.
 fn explanation(alloc: Global, input: &[u8], verdict: Verdict) -> Result<String, AllocError> {
     match wrong_entry_of(alloc, input, verdict)? {
         Some(wrong) => format!(in alloc; "   {wrong}"),
@@ -128,7 +128,7 @@ fn write_text<W: fmt::Write>(verdict: Verdict, more: &str, out: &mut W) -> fmt::
     }
 }
 
-// The word that tells the reason.
+// Returns the word for the reason.
 const fn word_of(reason: Reason) -> &'static str
     ensures { result.now ≡ text_of_reason reason }
 {
@@ -139,7 +139,7 @@ const fn word_of(reason: Reason) -> &'static str
     }
 }
 
-// The exit status: 0 where the trace is legal, and 1 where it isn't.
+// Returns the exit status: 0 if the trace is legal, and 1 if it isn't.
 const fn status_of(verdict: Verdict) -> u8
     ensures { result ≡ status_of verdict }
 {

@@ -59,7 +59,8 @@ fn write_reason<W: fmt::Write>(
     }
 }
 
-/// A reason whose value came through so many accesses, each of which got what one alone had left and changed it.
+/// Writes a reason whose value came through a number of accesses, each of which got what one alone had left and changed
+/// it.
 fn write_handed_on<W: fmt::Write>(
     first: usize,
     last: usize,
@@ -91,7 +92,7 @@ fn write_handed_on<W: fmt::Write>(
     }
 }
 
-/// As an object of JSON.
+/// As a JSON object.
 #[derive(Clone, Copy)]
 pub(super) struct Json(pub Claim);
 

@@ -1,4 +1,4 @@
-//! Judges histories, in which the order of accesses of several cores isn't known, and prints what comes of it.
+//! Judges histories, in which the order of accesses of several cores isn't known, and prints the result.
 ghost use Rattle.std.specs.Prelude.{◌≡◌, IfErr, IfOk};
 ghost use Rattle.text_verdicts.specs.Judge.{IsJudgedAs, IsNotJudged, status_of};
 ghost use Rattle.litmus_script.specs.Play.{IsOfRun};
@@ -19,14 +19,14 @@ use std::io::Write;
 pub enum JudgeForm {
     /// As text, with the contradiction of a word or a line that has no order.
     Text,
-    /// .. but where all have an order, the accesses of the word or the line with this number in its order, as a trace.
+    /// .. but if all have an order, the accesses of the word or the line with this number in its order, as a trace.
     Witness(u64),
-    /// As a value of JSON.
+    /// As a JSON value.
     Json,
 }
 
-/// Judges the histories of which a text tells, each word's by itself or each line's, and prints the verdict in this form.
-/// At most `limit` steps are taken to try orders of one. Returns the exit status.
+/// Judges the histories in a text, each word's by itself or each line's, and prints the verdict in this form. Takes at
+/// most `limit` steps to try orders of one. Returns the exit status.
 pub fn run_judge<W: Write>(
     alloc: Global,
     input: &[u8],
@@ -43,7 +43,7 @@ pub fn run_judge<W: Write>(
     Ok(status_of(&judged.verdict))
 }
 
-// The exit status: 0 where the histories are coherent, and 1 where they aren't, or nobody knows.
+// Returns the exit status: 0 if the histories are coherent, and 1 if they aren't or it is undecided.
 const fn status_of(verdict: &Verdict) -> u8
     ensures { result ≡ status_of verdict.now }
 {
@@ -70,7 +70,7 @@ fn print<W: Write>(
     }
 }
 
-/// What the contradiction says, if there is one.
+/// Returns what the contradiction says, if there is one.
 fn claims_in(alloc: Global, judged: &Judged) -> Result<Vec<Claim>, AllocError> {
     match &judged.verdict {
         Verdict::Incoherent(number, contradiction) => match judged.histories.history(*number) {
@@ -113,7 +113,7 @@ fn write_text<W: fmt::Write>(judged: &Judged, lines: &[Shown], out: &mut W) -> f
     }
 }
 
-/// What is judged under a number: `word 9`, or of a line `words 8 to 15`.
+/// What is judged under a number: `word 9`, or for a line `words 8 to 15`.
 #[derive(Clone, Copy)]
 struct Words(Extent, u64);
 
@@ -134,7 +134,7 @@ const fn words_of(line: u64) -> (u64, u64) {
     (first, first.saturating_add(7))
 }
 
-/// The same as a member of JSON.
+/// The same as a JSON member.
 #[derive(Clone, Copy)]
 struct WordsJson(Extent, u64);
 
@@ -150,7 +150,7 @@ impl fmt::Display for WordsJson {
     }
 }
 
-/// How many accesses the orders have.
+/// Returns the number of accesses in the orders.
 fn count(orders: &[Vec<usize>]) -> usize {
     let mut accesses: usize = 0;
     for order in orders {
@@ -159,7 +159,7 @@ fn count(orders: &[Vec<usize>]) -> usize {
     accesses
 }
 
-/// Writes what the steps lead to: the last one ends where the whole begins.
+/// Writes what the steps lead to: the last one ends where the first begins.
 fn write_end<W: fmt::Write>(lines: &[Shown], out: &mut W) -> fmt::Result {
     match lines.last() {
         Some(

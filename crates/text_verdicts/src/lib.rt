@@ -1,7 +1,7 @@
-//! What a trace or histories come to, printed.
+//! Prints the verdict on a trace or on histories.
 //!
-//! [`run_check`] judges a trace and writes its verdict, [`run_check_explained`] with what was expected of an entry at
-//! fault, and [`run_check_json`] both as JSON. [`run_judge`] judges histories, in which the order of several cores'
+//! [`run_check`] judges a trace and writes its verdict, [`run_check_explained`] with what was expected of an invalid
+//! entry, and [`run_check_json`] both as JSON. [`run_judge`] judges histories, in which the order of several cores'
 //! accesses isn't known, and prints that in a [`JudgeForm`].
 #![tactic(auto)]
 

@@ -1,19 +1,19 @@
-//! A contradiction as its reader sees it: where it names many accesses, those are left out that only hand a value on.
+//! A contradiction as its reader sees it: if it names many accesses, those that only pass a value on are left out.
 
 use history_text::{Claim, Reason};
 use std::alloc::{AllocError, Global};
 
-/// How many accesses a contradiction names before some are left out.
+/// The number of accesses that a contradiction names before some are left out.
 const MOST: usize = 6;
 
-/// A claim, and through how many accesses its value came that aren't named.
+/// A claim, and the number of unnamed accesses through which its value came.
 #[derive(Clone, Copy)]
 pub(super) struct Shown {
     pub claim: Claim,
     pub through: usize,
 }
 
-/// The claims of a contradiction as they are shown.
+/// Returns the claims of a contradiction as they are shown.
 pub(super) fn shown_claims(alloc: Global, claims: &[Claim]) -> Result<Vec<Shown>, AllocError> {
     let mut early = Vec::from_slice(alloc, claims)?;
     if count_named(alloc, claims)? <= MOST {
@@ -50,7 +50,7 @@ fn count_named(alloc: Global, claims: &[Claim]) -> Result<usize, AllocError> {
     Ok(lines.len())
 }
 
-/// The third access that a reason names, or else the last.
+/// Returns the third access that a reason names, or else the last.
 const fn third_of(reason: Reason, last: usize) -> usize {
     match reason {
         Reason::Overwritten { source, .. } => source,
@@ -60,7 +60,7 @@ const fn third_of(reason: Reason, last: usize) -> usize {
 }
 
 /// Has the claim at this place say that its value was overwritten as early as it was: by the first of those whose value
-/// was handed on to the one that it names.
+/// was passed on to the one that it names.
 fn overwrite_early(claims: &mut [Claim], place: usize) {
     for later in (1..=place).rev() {
         let earlier = later.saturating_sub(1);
@@ -105,7 +105,7 @@ fn overwritten_before(before: Claim, claim: Claim) -> Option<Claim> {
     }
 }
 
-/// The claims, with each chain of values that are handed on as one where that is asked for.
+/// Returns the claims, with each chain of values that are passed on as one if `are_merged`.
 fn merged(alloc: Global, claims: &[Claim], are_merged: bool) -> Result<Vec<Shown>, AllocError> {
     let mut all: Vec<Shown> = Vec::new(alloc);
     for claim in claims {
@@ -127,7 +127,7 @@ fn merged(alloc: Global, claims: &[Claim], are_merged: bool) -> Result<Vec<Shown
     Ok(all)
 }
 
-/// Both claims as one, if the first one's value is handed on in the second.
+/// Returns both claims as one, if the first one's value is passed on in the second.
 fn handed_on(shown: Shown, claim: Claim) -> Option<Shown> {
     let Claim::Before {
         first: one,

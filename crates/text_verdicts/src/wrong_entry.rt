@@ -1,4 +1,4 @@
-//! What was expected of the entry at fault of a trace, and where that comes from.
+//! What was expected of the invalid entry of a trace, and where that comes from.
 //!
 //! The trace was judged already. It is read once more, up to that entry; the value of a word is the one that
 //! `slice_log` computes plainly from the entries before.
@@ -13,7 +13,7 @@ use std::alloc::{AllocError, Global};
 use std::fmt;
 use trace_check::{Reason, TraceLine, Version};
 
-/// The entry at fault: the number of its line, and why it can't stand there.
+/// The invalid entry: the number of its line, and why it can't be there.
 #[derive(Clone, Copy)]
 pub(super) struct WrongEntry {
     line: usize,
@@ -30,7 +30,7 @@ struct Earlier {
 /// Where the value of a word comes from.
 #[derive(Clone, Copy)]
 enum Source {
-    /// No line says what it begins with, so it begins as 0.
+    /// No line gives its initial value, so it begins with 0.
     Nothing,
     /// The line with this number does.
     Initial(usize),
@@ -54,7 +54,7 @@ enum Cause {
         last: Earlier,
         last_seq: u64,
     },
-    /// It was asked for when the log was longer than what is before it.
+    /// It was requested when the log was longer than what is before it.
     Since {
         since: u64,
         number: usize,
@@ -78,7 +78,7 @@ struct Entries {
     lines: Vec<usize>,
 }
 
-/// Says what is wrong with the entry of this number in a trace, where it can't stand for this reason.
+/// Returns what is wrong with the entry of this number in a trace, which is invalid for this reason.
 pub(super) fn wrong_entry_at(
     alloc: Global,
     input: &[u8],
@@ -90,7 +90,7 @@ pub(super) fn wrong_entry_at(
 }
 
 impl Entries {
-    /// The entries of a trace up to the one with this number.
+    /// Reads the entries of a trace up to the one with this number.
     fn read(alloc: Global, input: &[u8], number: usize) -> Result<Self, AllocError> {
         let mut statements = Statements::of(input);
         let Some(first) = statements.next() else {
@@ -140,7 +140,7 @@ impl Entries {
         Ok(())
     }
 
-    /// What is wrong with the last entry.
+    /// Returns what is wrong with the last entry.
     fn last(&self, reason: Reason) -> Option<WrongEntry> {
         let (entry, before) = self.entries.as_slice().split_last()?;
         let line = *self.lines.as_slice().last()?;
@@ -175,7 +175,7 @@ impl Entries {
         })
     }
 
-    /// The line that says what a word begins with, if one does.
+    /// Returns the line that gives a word's initial value, if one does.
     fn initial(&self, word: WordAddr) -> Option<Initial> {
         let found = self.init.iter().find(|initial| initial.word == word)?;
         Some(*found)
@@ -212,14 +212,14 @@ fn source_of(initial: Option<Initial>) -> Source {
     }
 }
 
-/// The reply that an entry has to give after others, where its word begins with this value.
+/// Returns the reply that an entry has to give after others, if its word begins with this value.
 fn expected_reply(initial: u64, before: &[Entry], entry: &Entry) -> u64
     ensures { result ≡ reply_of entry.now.op (value initial before.now entry.now.word.0) }
 {
     reply_to(entry.op, value_after(initial, before, entry.word))
 }
 
-/// The number of the last entry that wrote the word.
+/// Returns the number of the last entry that wrote the word.
 fn last_writer(before: &[Entry], word: WordAddr) -> Option<usize> {
     let mut writer = None;
     for (number, entry) in before.iter().enumerate() {
@@ -230,7 +230,7 @@ fn last_writer(before: &[Entry], word: WordAddr) -> Option<usize> {
     writer
 }
 
-/// Whether an entry wrote the word. A compare-exchange did where it replied what it expected.
+/// Whether an entry wrote the word. A compare-exchange did if it replied what it expected.
 fn writes(entry: &Entry, word: WordAddr) -> bool {
     if entry.word != word {
         return false;
@@ -242,7 +242,7 @@ fn writes(entry: &Entry, word: WordAddr) -> bool {
     }
 }
 
-/// The number of the last entry of the same core and line. Up to an entry at fault it has the greatest SEQ of these.
+/// Returns the number of the last entry of the same core and line. Before an invalid entry it has the greatest SEQ.
 fn last_of_core(before: &[Entry], entry: &Entry) -> Option<usize> {
     let mut last = None;
     for (number, earlier) in before.iter().enumerate() {
@@ -290,7 +290,7 @@ impl fmt::Display for Earlier {
     }
 }
 
-/// The same as members of an object of JSON, and nothing where there is none. Words are strings, since they have 64 bits.
+/// The same as members of a JSON object, and nothing if there is none. Words are strings, since they have 64 bits.
 #[derive(Clone, Copy)]
 pub(super) struct Members(pub Option<WrongEntry>);
 

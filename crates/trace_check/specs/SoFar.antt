@@ -16,7 +16,7 @@ abbrev pub IsLastNamed : Option WordAddr → List (WordAddr × ℕ) → Type 0
 IsLastNamed None init = init ≡ []
 IsLastNamed (Some last) init = (before : List (WordAddr × ℕ)) × ((value : ℕ) × (init ≡ before ++ (last, value) ∷ []))
 
--- what the entries so far came to: a log that the judge knows, or a first entry at fault
+-- the result of the entries so far: a log that the judge knows, or a first invalid entry
 unfoldable pub IsSoFar : Judge → (ℕ → ℕ) → List Entry → Option (ℕ × Reason) → Type 0
 IsSoFar judge initial entries None = Knows judge initial entries
 IsSoFar judge initial entries (Some fault) = IsVerdict initial entries (verdicts.Illegal fault.0 fault.1)

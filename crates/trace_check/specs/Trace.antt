@@ -49,7 +49,7 @@ pub record IsTrace (version : Version) (init : List (WordAddr × ℕ)) (entries 
   pub begins : Writes first (parts_of_first version)
   pub goes_on : AreTrace version init entries rest
 
--- a trace whose entries come to this
+-- a trace whose entries have this verdict
 pub record IsJudged (text : List ℕ) (verdict : Verdict) : Type 0 where
   pub version : Version
   pub init : List (WordAddr × ℕ)
@@ -104,7 +104,7 @@ pub record IsReading (check : Check) (all left : List (ℕ × List (List ℕ))) 
   pub written : AreLines check.version done (body_of init entries)
   pub stands : Stands check.trace init entries
 
--- statements of a trace whose entries come to this
+-- statements of a trace whose entries have this verdict
 pub record AreJudged (version : Version) (statements : List (ℕ × List (List ℕ))) (verdict : Verdict) : Type 0 where
   pub init : List (WordAddr × ℕ)
   pub entries : List Entry
@@ -144,8 +144,8 @@ pub record IsFaultAmong (version : Version) (statements : List (ℕ × List (Lis
   pub written : AreLines version before (body_of init entries)
   pub is : IsFaultNext (0 < length entries) (IsNextWord init entries) version words fault
 
--- What is wrong with the invalid line of a text, by its statements: it is no trace if it is empty or begins as none, and
--- else this is wrong with the first line that can't come next.
+-- What is wrong with the invalid line of a text, by its statements: it is no trace if it is empty or begins as none,
+-- and else this is wrong with the first line that can't come next.
 abbrev pub IsFaultOfTrace : List (ℕ × List (List ℕ)) → ℕ → LineFault → Type 0
 IsFaultOfTrace [] number fault = fault ≡ line_faults.NotATrace
 IsFaultOfTrace (first ∷ rest) number fault =

@@ -34,13 +34,13 @@ parts_of_line (trace_lines.Entry e) =
     key (codes "entry") ∷ num e.core.0 ∷ num e.seq ∷ num e.tag
     ∷ (parts_of_op e.op e.word.0 ++ num e.reply ∷ num e.since ∷ [])
 
--- how many cores a trace can name
+-- the number of cores that a trace can name
 abbrev pub cores_of : Version → ℕ
 cores_of versions.One = 16
 cores_of versions.Two = 64
 cores_of versions.WithoutSince = 64
 
--- version 1 has no words for a compare-exchange
+-- version 1 can't express a compare-exchange
 abbrev pub IsOfVersion : Version → Op → Type 0
 IsOfVersion versions.One (ops.Cas expect new) = ⊥
 IsOfVersion version op = Unit {0}
@@ -62,12 +62,12 @@ unfoldable pub IsInRange : Version → TraceLine → Type 0
 IsInRange version (trace_lines.Init word value) = word.0 < MOST_WORDS
 IsInRange version (trace_lines.Entry e) = IsEntryOf version e
 
--- the words of an entry after its name, with SINCE: where the version leaves it out, it is 0
+-- the words of an entry after its name, with SINCE: if the version leaves it out, it is 0
 abbrev pub with_since : Version → List (List ℕ) → List (List ℕ)
 with_since versions.WithoutSince words = words ++ codes "0" ∷ []
 with_since version words = words
 
--- .. of a line: of an entry alone, which begins with its name
+-- .. of a line: only of an entry, which begins with its name
 abbrev pub line_with_since : Version → List (List ℕ) → List (List ℕ)
 line_with_since version [] = []
 line_with_since version (name ∷ words) = if bytes_eq name (codes "entry") then name ∷ with_since version words else name
@@ -82,7 +82,7 @@ pub record IsLineOf (version : Version) (words : List (List ℕ)) (line : TraceL
 abbrev pub IsNoLineOf : Version → List (List ℕ) → Type 0
 IsNoLineOf version words = (line : TraceLine) → ¬ IsLineOf version words line
 
--- the version has words for the line
+-- the version can express the line
 abbrev pub IsKnownTo : Version → TraceLine → Type 0
 IsKnownTo version (trace_lines.Init word value) = Unit {0}
 IsKnownTo version (trace_lines.Entry e) = IsOfVersion version e.op

@@ -1,4 +1,4 @@
--- What the entries of a trace come to: the first of them that is at fault, and the first reason.
+-- The verdict on the entries of a trace: the first of them that is invalid, and the first reason.
 use Rattle.std.specs.Prelude.{◌≡◌, ℕ, ◌<◌, ◌≤◌, List, length, take, slice_get, Some, All}
 use Rattle.slice_log.specs.Op.{reply_of}
 use Rattle.slice_log.specs.Log.{value, IsLegal, IsOrdered, IsAfter}
@@ -12,7 +12,7 @@ use Rattle.trace_check.specs.declared.verdict.Verdict.TheVariants as verdicts
 abbrev pub IsItsReply : (ℕ → ℕ) → List Entry → Entry → Type 0
 IsItsReply initial log e = e.reply ≡ reply_of e.op (value (initial e.word.0) log e.word.0)
 
--- the entry was asked for after all earlier ones of its core on its line
+-- the entry was requested after all earlier ones of its core on its line
 abbrev pub IsInOrder : List Entry → Entry → Type 0
 IsInOrder log e = All (λ d. IsAfter d e) log
 

@@ -8,11 +8,12 @@
 //!   [`one_judgement`] says that no text has two verdicts, and [`none_by_since`] that if entries don't give the log's
 //!   length, none is judged by it.
 //! - [`one_verdict`] says that no log has two verdicts (specs/Verdict.antt).
-//! - [`TraceLine`] is a line of a trace. If [`TraceLine::parse`] returns Ok the words write that line, and it names only
-//!   what a trace of this version can; they are refused only if they write no such line, and the fault is what is wrong
-//!   with them (`IsFaultOfLine` in specs/TraceLine.antt).
-//! - [`TraceJudge`] judges a trace entry by entry, as it comes (`Stands` in specs/SoFar.antt). [`Judge`] has the value of each word and the greatest seq of each core and line (specs/Judge.antt), so an entry is
-//!   judged without reading earlier ones.
+//! - [`TraceLine`] is a line of a trace. If [`TraceLine::parse`] returns Ok the words write that line, and it names
+//!   only what a trace of this version can; they are refused only if they write no such line, and the fault is what is
+//!   wrong with them (`IsFaultOfLine` in specs/TraceLine.antt).
+//! - [`TraceJudge`] judges a trace entry by entry, as it comes (`Stands` in specs/SoFar.antt). [`Judge`] has the value
+//!   of each word and the greatest seq of each core and line (specs/Judge.antt), so an entry is judged without reading
+//!   earlier ones.
 //!
 //! `check_trace` goes over the text once and keeps no entry. Its memory grows with the greatest word that is named, and
 //! each line with entries has room for the seqs of its cores, up to the last of them.

@@ -17,16 +17,16 @@ use std::alloc::{AllocError, Global};
 #[derive(Drop)]
 pub struct TraceJudge {
     judge: Judge,
-    /// The last word that was given a value to begin with.
+    /// The last word that was given an initial value.
     last: Option<WordAddr>,
-    /// How many entries there were.
+    /// The number of entries.
     pub(super) entries: usize,
     /// The first wrong entry, and why.
     fault: Option<(usize, Reason)>,
 }
 
 impl TraceJudge {
-    /// A trace without an initial value and an entry.
+    /// Creates the judge of a trace without an initial value and an entry.
     pub fn new(alloc: Global) -> Self
         ensures { Stands result [] [] }
     {
@@ -38,7 +38,7 @@ impl TraceJudge {
         }
     }
 
-    /// Whether the word may be given a value to begin with: before the entries, and words ascend.
+    /// Whether the word may be given an initial value: before the entries, and words ascend.
     pub fn may_begin(&self, word: WordAddr) -> bool
         ensures { IsTrue result ↔ MayBegin self.now word }
     {
@@ -49,7 +49,7 @@ impl TraceJudge {
         is_above && self.entries == 0
     }
 
-    /// Gives a word the value that it begins with.
+    /// Gives a word its initial value.
     pub fn begin(&mut self, word: WordAddr, value: u64) -> Result<(), AllocError>
         requires word { word.0 < MOST_WORDS }
         requires place { MayBegin self.old word }
@@ -100,7 +100,7 @@ impl TraceJudge {
         }
     }
 
-    /// What the entries come to so far.
+    /// Returns the verdict on the entries so far.
     pub fn verdict(&self) -> Verdict
         ensures { (init : List (WordAddr × ℕ)) (entries : List Entry) → Stands self.now init entries
             → IsVerdict (initially init) entries result }

@@ -1,11 +1,11 @@
 //! The longer texts of the program's help.
 
-/// What stands below the subcommands.
+/// What is below the subcommands.
 pub const TOP: &str = "\
 Where a file can't be read, or a line in it is wrong, add --explain to script, litmus, walk, run, test,
 check or judge: the error then says why, or what could stand there.";
 
-/// What stands below the options of `script`.
+/// What is below the options of `script`.
 pub const SCRIPT: &str = "\
 Commands:
   issue 0 5 add 8 1   core 0 asks, under tag 5, to add 1 to word 8
@@ -32,7 +32,7 @@ docs/EXAMPLES.md (scripts to begin with)
 
 Example: lockup script examples/first_add.txt";
 
-/// What stands below the options of `coverage`.
+/// What is below the options of `coverage`.
 pub const COVERAGE: &str = "\
 The sum is printed as 'lockup script --coverage' prints the counts of one script: a line for each cell
 of the protocol's tables, with how often it was met, as far as one of the files lists it:
@@ -46,7 +46,7 @@ Documents: docs/TEXTS.md (coverage), docs/PROTOCOL.md (the tables)
 
 Example: lockup coverage first.txt second.txt | grep ' 0$'";
 
-/// What stands below the options of `try`.
+/// What is below the options of `try`.
 pub const TRY: &str = "\
 Lines come from standard input, a terminal or a pipe, and each is answered at once. A line is one of
 a script ('lockup script --help' lists them), or:
@@ -65,7 +65,7 @@ Documents: docs/TEXTS.md (each line and answer)
 
 Example: lockup try examples/first_add.txt";
 
-/// What stands below the options of `chart`.
+/// What is below the options of `chart`.
 pub const CHART: &str = "\
 Without options, a diagram in Mermaid's words: each message an arrow where it is delivered. With
 --svg, one line over time, from top to bottom: a lifeline for the directory and each core that takes
@@ -78,7 +78,7 @@ Documents: docs/TEXTS.md (both diagrams)
 Examples: lockup chart examples/shared_line.txt
           lockup chart --svg examples/invalidation_before_data.txt > run.svg";
 
-/// What stands below the options of `page`.
+/// What is below the options of `page`.
 pub const PAGE: &str = "\
 With --guess the page asks for the answer of each command before it shows it.
 
@@ -90,7 +90,7 @@ Documents: docs/TEXTS.md (pages, and the values in them; the page to play with)
 Examples: lockup page examples/shared_line.txt > run.html
           lockup page --guess examples/two_upgrades_at_once.txt > run.html";
 
-/// What stands below the options of `litmus`.
+/// What is below the options of `litmus`.
 pub const LITMUS: &str = "\
 Each round runs the test's programs on a new machine, in a thread for each core, beside threads
 that move messages. A line of the table is an outcome, with how many rounds had it:
@@ -104,7 +104,7 @@ Documents: docs/TEXTS.md (the lines of a litmus test), docs/EXAMPLES.md (tests t
 
 Example: lockup litmus examples/litmus/sb.txt";
 
-/// What stands below the options of `walk`.
+/// What is below the options of `walk`.
 pub const WALK: &str = "\
 Each round runs the test's programs on a new machine, on one thread: the cores' steps and single
 deliveries come in an order that is drawn from the round's seed. So the same words print the same
@@ -133,7 +133,7 @@ Documents: docs/TEXTS.md (the lines of a litmus test), docs/EXAMPLES.md (tests t
 
 Example: lockup walk examples/litmus/sb.txt --rounds 1000";
 
-/// What stands below the options of `merge`.
+/// What is below the options of `merge`.
 pub const MERGE: &str = "\
 A part is what 'lockup walk --part' prints of some rounds of a litmus test. The files of the parts
 follow the test, in any order, each with one part or more. The table is that of one walk with the
@@ -153,7 +153,7 @@ Documents: docs/TEXTS.md (the lines of a part, the columns of rows)
 
 Example: lockup merge sb.txt part1.txt part2.txt";
 
-/// What stands below the options of `run`.
+/// What is below the options of `run`.
 pub const RUN: &str = "\
 A text of programs says what each core asks for, one access after another:
 
@@ -193,7 +193,7 @@ Documents: docs/TEXTS.md (the lines of programs, the columns of the report and o
 Example: lockup run examples/programs/false_sharing.txt
          lockup run examples/programs/histogram_shared.txt --set ways=1,2,4 --seeds 1..20 --csv";
 
-/// What stands below the options of `generate`.
+/// What is below the options of `generate`.
 pub const GENERATE: &str = "\
 Workloads, and what their size counts:
 
@@ -210,7 +210,7 @@ Documents: docs/EXAMPLES.md (what each shows)
 
 Example: lockup generate matmul --cores 4 --size 16 > matmul.txt";
 
-/// What stands below the options of `test`.
+/// What is below the options of `test`.
 pub const TEST: &str = "\
 A line of the script may end in '=' and the answer that is wanted of its command; further lines of
 the answer stand in lines of their own that begin with '='. An answer of which nothing is wanted may
@@ -225,7 +225,7 @@ Documents: docs/TEXTS.md
 
 Example: lockup test examples/exercises/first_miss.txt";
 
-/// What stands below the options of `check`.
+/// What is below the options of `check`.
 pub const CHECK: &str = "\
 With --explain the line of the wrong entry follows the verdict, and what was expected there:
 
@@ -235,7 +235,7 @@ Documents: docs/TEXTS.md (the lines of a trace, what makes one illegal)
 
 Example: lockup check --explain examples/illegal_trace.txt";
 
-/// What stands below the options of `judge`.
+/// What is below the options of `judge`.
 pub const JUDGE: &str = "\
 A history begins with lockup-history 1, and then has lines such as
 
@@ -257,7 +257,7 @@ Documents: docs/TEXTS.md (judging without an order)
 
 Example: lockup judge examples/incoherent_history.txt";
 
-/// What stands below the options of `what-if`.
+/// What is below the options of `what-if`.
 pub const WHAT_IF: &str = "\
 Print a table, change a cell, and see which promise breaks:
 
@@ -278,7 +278,7 @@ Documents: docs/PROTOCOL.md (the tables, and what changed cells break)
 
 Example: lockup what-if --cache examples/what_if/reader_that_stays.txt";
 
-/// What stands below the options of `export`.
+/// What is below the options of `export`.
 pub const EXPORT: &str = "\
 murphi: each rule is one row of the tables by which the slices run, and has its cell's name, so a
 counterexample reads like them:

@@ -23,17 +23,17 @@ pub(super) enum Parameter<'a> {
     OneOf(&'a str, &'a str, &'a [&'a str]),
     /// An option without a value.
     Flag(&'a str, &'a str),
-    /// .. which can't stand with these others.
+    /// .. which conflicts with these others.
     LoneFlag(&'a str, &'a str, &'a [&'a str]),
     /// An option with a number.
     Number(&'a str, &'a str, Bounds),
-    /// .. which is this one where none is given.
+    /// .. with this default.
     NumberOr(&'a str, &'a str, Bounds, &'a str),
-    /// An option with a text, of which help says this.
+    /// An option with a text, which help describes so.
     Text(&'a str, &'a str, &'a str),
     /// .. which may be given more than once.
     Texts(&'a str, &'a str, &'a str),
-    /// .. which can't stand with these others.
+    /// .. which conflicts with these others.
     LoneText(&'a str, &'a str, &'a str, &'a [&'a str]),
     /// An option with a number that is one of these words.
     Choice(&'a str, &'a str, &'a [&'a str]),
@@ -52,7 +52,7 @@ pub(super) enum Bounds {
 }
 
 impl<'a> Parameter<'a> {
-    /// The subcommand with this parameter too.
+    /// Adds this parameter to the subcommand.
     pub(super) fn add_to(
         self,
         alloc: Global,
@@ -65,7 +65,7 @@ impl<'a> Parameter<'a> {
         command?.arg(arg?)
     }
 
-    /// The parameter for `clap`.
+    /// Returns the parameter for `clap`.
     fn arg(self, alloc: Global) -> Result<Arg<'a>, AllocError>
         ensures { IfOk result (HasRule (rule_of_parameter self.entry)) }
     {
@@ -99,7 +99,7 @@ impl<'a> Parameter<'a> {
 }
 
 impl Bounds {
-    /// What reads such a number.
+    /// Returns the parser of such a number.
     fn parser<'a>(self) -> ValueParser<'a>
         ensures { result ≡ parser_of self }
     {
@@ -142,7 +142,7 @@ fn text<'a>(alloc: Global, name: &'a str, help: &'a str, value: &'a str) -> Arg<
         .help(help)
 }
 
-/// The option, which can't stand with these others.
+/// Returns the option, which conflicts with these others.
 fn lone<'a>(option: Arg<'a>, others: &[&'a str]) -> Result<Arg<'a>, AllocError>
     ensures { (rule : Rule) → rule.is_free ≡ true → HasRule rule option.entry
         → IfOk result (HasRule (record rule { is_free = is_empty others.now })) }

@@ -94,8 +94,8 @@ impl Outcomes {
         self.rounds
     }
 
-    /// Also counts the rounds of another table, whose round 0 is round `from` here. If it returns `Err` some of them may
-    /// be counted.
+    /// Also counts the rounds of another table, whose round 0 is round `from` here. At `Err` some of its rows may be
+    /// counted.
     pub fn append(&mut self, from: u64, other: &Outcomes) -> Result<(), AllocError>
         requires { self.old.rounds + other.now.rounds < 2 ^ 64 }
         // The other's rounds come after those of this one.

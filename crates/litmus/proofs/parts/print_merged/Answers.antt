@@ -4,7 +4,7 @@ use Rattle.std.proofs.lemmas.Result.{err_from_is_err_and, IfOk-weaker}
 use Rattle.litmus.proofs.Faults.{not-run}
 use Rattle.litmus.proofs.parts.print_merged.Goals as goal
 
--- what holds of a result where something is given holds of it so
+-- what holds of a result if something is given holds of it when it is given
 where-given : {B E : Type 0} (Given : B → Type 0) (Holds : B → ℕ → Type 0) (result : Result ℕ E)
     → ((b : B) → Given b → IfOk result (Holds b)) → IfOk result (λ n. (b : B) → Given b → Holds b n)
 where-given Given Holds (Ok n) holds = holds

@@ -5,7 +5,7 @@ use Rattle.litmus_threads.proofs.Lines.{numbers_from}
 use Rattle.litmus.specs.Traces.{text_of_slice, text_of_slices}
 use Rattle.litmus.proofs.traces.write_logs.Given as goal
 
--- who writes the logs of the slices that are left has written all
+-- after the logs of the remaining slices all are written
 abbrev pub invariant-loop-slice : goal.invariant-loop-slice
 invariant-loop-slice g l =
     let contents = g.W.Write.contents in

@@ -1,0 +1,76 @@
+//! `merge`: rows of several files together, or after a litmus test the parts of its walk.
+
+use super::answers::end;
+use super::schedules::outcome_form;
+use litmus::{Merged, print_merged, read_files};
+use litmus_text::TextFault;
+use lockup_front::{
+    People, REFUSED, complain, merged_parts, print_merged_rows, read, report, show,
+};
+use program_rows::are_rows;
+use std::io;
+use std::io::{BufWriter, Write};
+use std::rt::Files;
+
+/// The error where rows are to be put together as parts, or parts as rows.
+const NO_JSON: &str = "--json: rows are put together as CSV alone";
+
+const NO_MEAN: &str = "--mean: a walk has outcomes, and no means";
+
+/// Puts the rows of the files together, or after a litmus test the parts of its walk. Returns the exit status.
+pub(super) fn merge<R>(rt: &R, people: People, words: &[String], json: bool, mean: bool) -> u8
+where
+    R: Files + Input + AllocGlobal + Print + Eprint,
+{
+    match read_files(rt.alloc(), words) {
+        Ok(files) => merge_files(rt, people, files.as_slice(), json, mean),
+        Err(error) => show(rt, people, &error),
+    }
+}
+
+fn merge_files<R>(rt: &R, people: People, files: &[&str], json: bool, mean: bool) -> u8
+where
+    R: Files + Input + AllocGlobal + Print + Eprint,
+{
+    let Some((file, parts)) = files.split_first() else {
+        return REFUSED;
+    };
+    let text = match read(rt, file) {
+        Ok(text) => text,
+        Err(error) => return report(rt, people, &error, format_args!("cannot read {file}")),
+    };
+    match (are_rows(text.as_slice()), json, mean) {
+        (true, false, _) => print_merged_rows(rt, people, files, text.as_slice(), mean),
+        (false, _, false) => merge_parts(rt, people, text.as_slice(), parts, json),
+        (is_rows, _, _) => {
+            complain(rt, people, if is_rows { NO_JSON } else { NO_MEAN });
+            REFUSED
+        }
+    }
+}
+
+/// Puts parts of a walk of a litmus test together, and prints what one walk of all their rounds prints. Returns the exit
+/// status.
+fn merge_parts<R>(rt: &R, people: People, test: &[u8], files: &[&str], json: bool) -> u8
+where
+    R: Files + Input + AllocGlobal + Print + Eprint,
+{
+    match merged_parts(rt, people, test, files) {
+        Ok(merged) => end(rt, people, write_merged(rt, test, &merged, json)),
+        Err(status) => status,
+    }
+}
+
+fn write_merged<R>(rt: &R, test: &[u8], merged: &Merged, json: bool) -> Result<u8, TextFault>
+where
+    R: AllocGlobal + Print,
+{
+    let Ok(mut out) = BufWriter::new(rt.alloc(), io::writer(rt)) else {
+        return Err(TextFault::NoMemory);
+    };
+    let printed = print_merged(rt.alloc(), test, merged, outcome_form(json), &mut out);
+    match out.flush() {
+        Ok(()) => printed,
+        Err(_) => Err(TextFault::CannotWrite),
+    }
+}

@@ -37,7 +37,13 @@ fn why_unread(line: CommandLine<'_>, error: &io::Error) -> Option<&'static str> 
 }
 
 /// Complains of a fault, and where errors are explained reports what its reader may want to know.
-pub(super) fn complain_of<R>(rt: &R, people: People, line: CommandLine<'_>, input: &[u8], fault: TextFault)
+pub(super) fn complain_of<R>(
+    rt: &R,
+    people: People,
+    line: CommandLine<'_>,
+    input: &[u8],
+    fault: TextFault,
+)
 where
     R: AllocGlobal + Eprint,
 {

@@ -8,9 +8,7 @@
 
 use answers::answer;
 use litmus::{CommandLine, Limits, Seeds, Size, SweepFault, read_line};
-use lockup_front::{
-    People, Rows, add_coverage, print_rows, print_workload, report, show,
-};
+use lockup_front::{People, Rows, add_coverage, print_rows, print_workload, report, show};
 use merged::merge;
 use models::run_under_tables;
 use std::env::VarError;

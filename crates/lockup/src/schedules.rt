@@ -157,7 +157,16 @@ where
         counted: Counted::Rounds,
     };
     let printed = print_parts(
-        rt.alloc(), rt, jobs, input, known, rounds, seed, limit, shown, out,
+        rt.alloc(),
+        rt,
+        jobs,
+        input,
+        known,
+        rounds,
+        seed,
+        limit,
+        shown,
+        out,
     );
     tell_other_rounds(rt, people, resume, printed);
     printed

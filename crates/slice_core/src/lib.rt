@@ -28,8 +28,8 @@ pub use slice_answer::{
     Cell, Delivered, DeliveredNext, Delivery, Evicted, Issue, Refused, Stall, Stats,
 };
 pub use slice_core_cache::{AccessKind, Ask, CacheCopy, Placement, TagState};
-pub use slice_core_spec::{CopyStep, Decision, ForwardedStep, HomeStep, Plan, Transition};
 pub use slice_core_exec::{CoreLines, LineView};
+pub use slice_core_spec::{CopyStep, Decision, ForwardedStep, HomeStep, Plan, Transition};
 pub use slice_log::{Entry, Numbered};
 pub use slice_queues::{
     Class, DataMessage, ForwardedMessage, LineWaiting, Message, Pick, Picks, RequestMessage,

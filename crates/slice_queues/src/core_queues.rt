@@ -1,8 +1,8 @@
 ghost use Rattle.std.specs.Prelude.{◌≡◌};
 
 use super::forwarded_queue::ForwardedQueue;
-use address_map::CoreSet;
 use super::message::{DataMessage, RequestMessage};
+use address_map::CoreSet;
 use std::marker::Model;
 
 /// One core's channels of a line: its request to the directory, and what waits for it.

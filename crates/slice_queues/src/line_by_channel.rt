@@ -1,8 +1,8 @@
 ghost use Rattle.std.specs.Prelude.{◌≡◌, ◌↔◌, slice_get, IsTrue};
 ghost use Rattle.slice_queues.specs.Line.{messages_at, HasChannel, HasRoom};
 
-use super::line_queues::LineQueues;
 use super::channel::Channel;
+use super::line_queues::LineQueues;
 use super::message::Message;
 
 /// The channels by their names.

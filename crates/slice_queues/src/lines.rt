@@ -5,12 +5,12 @@ ghost use Rattle.slice_queues.specs.Line.{LineChannels, no_messages, core_at, wi
 ghost use Rattle.slice_queues.specs.Line.{HasChannel, Carries, IsOfCore};
 ghost use Rattle.slice_queues.specs.Mail.{IsLine};
 
+use super::channel::Channel;
 use super::core_queues::CoreQueues;
 use super::line_queues::LineQueues;
 use super::mail::{Mail, without_unless};
-use address_map::{Block, CoreId, CoreSet, Local};
-use super::channel::Channel;
 use super::message::{ForwardedMessage, Message};
+use address_map::{Block, CoreId, CoreSet, Local};
 use std::alloc::{AllocError, Global};
 use std::boxed::BoxedSlice;
 use std::marker::Model;

@@ -2,8 +2,8 @@ ghost use Rattle.std.specs.Prelude.{◌≡◌, if◌then◌else◌};
 ghost use Rattle.address_map.specs.CoreSet.{without};
 ghost use Rattle.slice_queues.specs.Mail.{all_marked, marks_of, no_marks};
 
-use address_map::{CoreId, CoreSet};
 use super::channel::Class;
+use address_map::{CoreId, CoreSet};
 
 /// The cores of a line for which messages wait, by kind: of requests, those that sent them.
 #[derive(Clone, Copy)]

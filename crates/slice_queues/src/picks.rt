@@ -1,9 +1,9 @@
 ghost use Rattle.std.specs.Prelude.{◌≡◌, ◌≤◌, ◌-◌, ◌++◌, length, take, drop, slice_get};
 
+use super::channel::Pick;
 use super::lines::Lines;
 use super::waiting::LineWaiting;
 use address_map::{LineAddr, Local};
-use super::channel::Pick;
 use std::marker::Model;
 
 /// The picks with a message of a run of lines, line by line.

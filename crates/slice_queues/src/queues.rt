@@ -3,13 +3,13 @@ ghost use Rattle.std.specs.Prelude.{slice_index, Some, IsTrue, IfOk};
 ghost use Rattle.slice_queues.specs.Pick.{line_of, channel_of};
 ghost use Rattle.slice_queues.specs.Ring.{with_listed};
 
+use super::channel::{Channel, Pick};
 use super::line_queues::LineQueues;
 use super::lines::Lines;
+use super::message::Message;
 use super::picks::{LinesWaiting, Picks};
 use super::ring::LineRing;
 use address_map::{CoreId, CoreSet, LineAddr, Local, Locator};
-use super::channel::{Channel, Pick};
-use super::message::Message;
 use std::alloc::{AllocError, Global};
 use std::marker::Model;
 

@@ -2,10 +2,10 @@ ghost use Rattle.std.specs.Prelude.{◌≡◌, ◌<◌, [], length, drop, slice_
 ghost use Rattle.slice_queues.specs.Line.{no_messages};
 ghost use Rattle.slice_queues.specs.Waiting.{AreCores, acks_from, channels_left, marked_waiting};
 
+use super::channel::Channel;
 use super::core_queues::CoreQueues;
 use super::mail::Mail;
 use address_map::{CoreId, CoreSet};
-use super::channel::Channel;
 use std::marker::Model;
 
 /// The acknowledgements of one line that are left, by their receivers, and those for one by their senders.

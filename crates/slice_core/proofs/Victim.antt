@@ -1,5 +1,5 @@
 -- A miss for which a line has to leave: the core's write-back buffer takes the victim in last.
-use Rattle.std.proofs.Common.{◌≡◌, ◌<◌, ◌-◌, List, [], ◌∷◌, ◌++◌, length, map, slice_get, Some, Result, Ok}
+use Rattle.std.proofs.Common.{◌≡◌, ℕ, ◌<◌, ◌-◌, List, [], ◌∷◌, ◌++◌, length, map, slice_get, Some, Result, Ok}
 use Rattle.std.proofs.Common.{refl, sym, ap, subst, ◌∙◌, arith, ⊎_elim, length-append, length-set}
 use Rattle.std.specs.Prelude.{◌⊎◌, false}
 use Rattle.std.proofs.lemmas.List.{get_or-set_same, map-append}

@@ -5,8 +5,8 @@
 //!   which cell of the protocol's tables it would meet (specs/Cells.antt), and what there is. [`Simulator::build`] takes
 //!   what the lines of a script configure.
 //!
-//! Only these allocate: [`Simulator::build`], [`Simulator::issue`], [`Simulator::begin_log`], [`Simulator::register_at`],
-//! [`Simulator::core_lines`], [`Simulator::set_lines`], and the calls of [`TraceJudge`].
+//! Only these allocate: [`Simulator::build`], [`Simulator::try_clone`], [`Simulator::issue`], [`Simulator::begin_log`],
+//! [`Simulator::register_at`], [`Simulator::core_lines`] and [`Simulator::set_lines`].
 #![tactic(auto)]
 
 pub use looks::MissRegister;

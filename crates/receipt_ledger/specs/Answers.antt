@@ -86,7 +86,7 @@ pub record IsAtSlice (c : Config) (number : ℕ) (word : WordAddr) : Type 0 wher
 
 -- What configuration and request alone say of an answer of the slice of this number. A request is judged in this order:
 -- whether its word lies past the memory, or in another slice; whether its tag is above 63, or in flight; and whether it
--- stores to a counter. Failed allocation, or a log that is too short, may be reported instead of any of these.
+-- stores to a counter. A failed allocation, or a log that is too short, may be reported instead of any of these.
 abbrev pub IsJudged : {X : Type 0} → Config → ℕ → Request → Result X Refused → Type 0
 IsJudged {X} c number request (Err refusals.OutOfRange) = word_count c ≤ request.word.0
 IsJudged {X} c number request (Err refusals.WrongSlice) =

@@ -8,8 +8,9 @@
 //! All memory is taken by [`Parts::new`] and [`Parts::try_clone`], but for the log, which grows in [`Parts::issue`]
 //! alone, before anything changes, the lists of [`Parts::core_lines`], and what [`Parts::begin_log`] allocates. A call
 //! looks at its own line and core: no call searches lines or cores, but [`Parts::deliver_next`] and [`Parts::next`],
-//! which look at the lines with pending messages from the front of their ring, and [`Parts::waiting`], which goes through all lines. What a call would decide can be asked without
-//! it: [`Parts::decide`], [`Parts::plan_at`] and [`Parts::next`] change nothing.
+//! which look at the lines with pending messages from the front of their ring, and [`Parts::waiting`], which goes
+//! through all lines. What a call would decide can be asked without it: [`Parts::decide`], [`Parts::plan_at`] and
+//! [`Parts::next`] change nothing.
 #![tactic(auto)]
 
 pub use core_lines::CoreLines;

@@ -37,8 +37,9 @@ pub use export::{run_export, run_queries};
 pub use history_text::Extent;
 pub use litmus_chart::{line_count, run_chart, run_svg};
 pub use litmus_command_line::{
-    CommandLine, ModelCores, ScheduleForm, ScriptForm, Table, WhatIfForm, read_files, read_line,
-    read_settings,
+    ChartArgs, CheckArgs, CommandLine, ExportArgs, JudgeArgs, LitmusArgs, MergeArgs, ModelCores,
+    PageArgs, PartArgs, QueriesArgs, RunArgs, ScheduleForm, ScriptArgs, ScriptForm, Table,
+    TableArgs, TestArgs, TryArgs, WalkArgs, read_files, read_line,
 };
 pub use litmus_rounds::{Gap, Merged, Part, PartFault, Parts, processors, sum_of};
 pub use litmus_script::run_script;

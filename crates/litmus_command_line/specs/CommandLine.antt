@@ -103,77 +103,81 @@ names_tables rows = is_some (first_of (codes "cache") rows) || is_some (first_of
 
 -- the subcommand of this name, with these values, is what the line holds
 abbrev pub IsLine : Text → List Row → CommandLine → Type 0
-IsLine name rows (command_lines.Script file form) =
-    (name ≡ codes "script") × (first_of (codes "FILE") rows ≡ Some file.now) × IsFormOf rows form
+IsLine name rows (command_lines.Script args) =
+    (name ≡ codes "script") × (first_of (codes "FILE") rows ≡ Some args.file.now) × IsFormOf rows args.form
 IsLine name rows command_lines.Coverage = name ≡ codes "coverage"
-IsLine name rows (command_lines.Try file) =
-    (name ≡ codes "try") × (option_map (λ f. f.now) file ≡ first_of (codes "FILE") rows)
-IsLine name rows (command_lines.Chart file svg line) =
-    (name ≡ codes "chart") × (first_of (codes "FILE") rows ≡ Some file.now)
-    × (svg ≡ is_given (codes "svg") rows) × IsNumberIfGiven (codes "line") rows line
-IsLine name rows (command_lines.Page file guess) =
-    (name ≡ codes "page") × (first_of (codes "FILE") rows ≡ Some file.now) × (guess ≡ is_given (codes "guess") rows)
-IsLine name rows (command_lines.Litmus file seed limit trace json explain) =
-    (name ≡ codes "litmus") × (first_of (codes "FILE") rows ≡ Some file.now)
-    × IsNumberOf (codes "seed") rows seed × IsNumberOf (codes "limit") rows limit
-    × IsNumberIfGiven (codes "trace") rows trace × (json ≡ is_given (codes "json") rows)
-    × (explain ≡ is_given (codes "explain") rows)
-IsLine name rows (command_lines.Walk file rounds seed limit jobs form explain) =
-    (name ≡ codes "walk") × (first_of (codes "FILE") rows ≡ Some file.now)
-    × IsNumberIfGiven (codes "rounds") rows rounds × IsNumberOf (codes "seed") rows seed
-    × IsNumberIfGiven (codes "limit") rows limit × IsNumberIfGiven (codes "jobs") rows jobs
-    × IsScheduleFormOf rows form × (explain ≡ is_given (codes "explain") rows)
+IsLine name rows (command_lines.Try args) =
+    (name ≡ codes "try") × (option_map (λ f. f.now) args.file ≡ first_of (codes "FILE") rows)
+IsLine name rows (command_lines.Chart args) =
+    (name ≡ codes "chart") × (first_of (codes "FILE") rows ≡ Some args.file.now)
+    × (args.svg ≡ is_given (codes "svg") rows) × IsNumberIfGiven (codes "line") rows args.line
+IsLine name rows (command_lines.Page args) =
+    (name ≡ codes "page") × (first_of (codes "FILE") rows ≡ Some args.file.now)
+    × (args.guess ≡ is_given (codes "guess") rows)
+IsLine name rows (command_lines.Litmus args) =
+    (name ≡ codes "litmus") × (first_of (codes "FILE") rows ≡ Some args.file.now)
+    × IsNumberOf (codes "seed") rows args.seed × IsNumberOf (codes "limit") rows args.limit
+    × IsNumberIfGiven (codes "trace") rows args.trace × (args.json ≡ is_given (codes "json") rows)
+    × (args.explain ≡ is_given (codes "explain") rows)
+IsLine name rows (command_lines.Walk args) =
+    (name ≡ codes "walk") × (first_of (codes "FILE") rows ≡ Some args.file.now)
+    × IsNumberIfGiven (codes "rounds") rows args.rounds × IsNumberOf (codes "seed") rows args.seed
+    × IsNumberIfGiven (codes "limit") rows args.limit × IsNumberIfGiven (codes "jobs") rows args.jobs
+    × IsScheduleFormOf rows args.form × (args.explain ≡ is_given (codes "explain") rows)
     × (prints_parts rows ≡ false)
-IsLine name rows (command_lines.Part file resume rounds seed limit jobs explain) =
-    (name ≡ codes "walk") × (first_of (codes "FILE") rows ≡ Some file.now)
-    × (option_map (λ f. f.now) resume ≡ first_of (codes "resume") rows)
-    × IsNumberIfGiven (codes "rounds") rows rounds × IsNumberOf (codes "seed") rows seed
-    × IsNumberIfGiven (codes "limit") rows limit × IsNumberIfGiven (codes "jobs") rows jobs
-    × AreScheduleGiven rows false false false false false × (explain ≡ is_given (codes "explain") rows)
+IsLine name rows (command_lines.Part args) =
+    (name ≡ codes "walk") × (first_of (codes "FILE") rows ≡ Some args.file.now)
+    × (option_map (λ f. f.now) args.resume ≡ first_of (codes "resume") rows)
+    × IsNumberIfGiven (codes "rounds") rows args.rounds × IsNumberOf (codes "seed") rows args.seed
+    × IsNumberIfGiven (codes "limit") rows args.limit × IsNumberIfGiven (codes "jobs") rows args.jobs
+    × AreScheduleGiven rows false false false false false × (args.explain ≡ is_given (codes "explain") rows)
     × (prints_parts rows ≡ true)
-IsLine name rows (command_lines.Merge json mean) =
-    (name ≡ codes "merge") × (json ≡ is_given (codes "json") rows) × (mean ≡ is_given (codes "mean") rows)
-IsLine name rows (command_lines.Run file outstanding pace seed form explain) =
-    (name ≡ codes "run") × (first_of (codes "FILE") rows ≡ Some file.now)
-    × IsNumberIfGiven (codes "outstanding") rows outstanding × IsNumberIfGiven (codes "pace") rows pace
-    × IsNumberOf (codes "seed") rows seed × IsScheduleFormOf rows form
-    × (explain ≡ is_given (codes "explain") rows) × (is_swept rows ≡ false)
-IsLine name rows (command_lines.Sweep file outstanding pace seed seeds json) =
-    (name ≡ codes "run") × (first_of (codes "FILE") rows ≡ Some file.now)
-    × IsNumberIfGiven (codes "outstanding") rows outstanding × IsNumberIfGiven (codes "pace") rows pace
-    × IsNumberOf (codes "seed") rows seed
-    × (option_map (λ s. s.now) seeds ≡ first_of (codes "seeds") rows) × (json ≡ is_given (codes "json") rows)
+IsLine name rows (command_lines.Merge args) =
+    (name ≡ codes "merge") × (args.json ≡ is_given (codes "json") rows) × (args.mean ≡ is_given (codes "mean") rows)
+IsLine name rows (command_lines.Run args) =
+    (name ≡ codes "run") × (first_of (codes "FILE") rows ≡ Some args.file.now)
+    × IsNumberIfGiven (codes "outstanding") rows args.outstanding
+    × IsNumberIfGiven (codes "pace") rows args.pace
+    × IsNumberOf (codes "seed") rows args.seed × IsScheduleFormOf rows args.form
+    × (args.explain ≡ is_given (codes "explain") rows) × (is_swept rows ≡ false)
+IsLine name rows (command_lines.Sweep args) =
+    (name ≡ codes "run") × (first_of (codes "FILE") rows ≡ Some args.file.now)
+    × IsNumberIfGiven (codes "outstanding") rows args.outstanding
+    × IsNumberIfGiven (codes "pace") rows args.pace
+    × IsNumberOf (codes "seed") rows args.seed
+    × (option_map (λ s. s.now) args.seeds ≡ first_of (codes "seeds") rows) × (args.json ≡ is_given (codes "json") rows)
     × (is_swept rows ≡ true)
-IsLine name rows (command_lines.Generate workload cores size seed) =
-    (name ≡ codes "generate") × (first_of (codes "NAME") rows ≡ Some workload.now)
-    × IsNumberOf (codes "cores") rows cores × IsNumberOf (codes "size") rows size × IsNumberOf (codes "seed") rows seed
-IsLine name rows (command_lines.Test file first explain) =
-    (name ≡ codes "test") × (first_of (codes "FILE") rows ≡ Some file.now)
-    × (first ≡ is_given (codes "first") rows) × (explain ≡ is_given (codes "explain") rows)
-IsLine name rows (command_lines.Check file json explain) =
-    (name ≡ codes "check") × (first_of (codes "FILE") rows ≡ Some file.now)
-    × (json ≡ is_given (codes "json") rows) × (explain ≡ is_given (codes "explain") rows)
-IsLine name rows (command_lines.Judge file limit line witness json explain) =
-    (name ≡ codes "judge") × (first_of (codes "FILE") rows ≡ Some file.now)
-    × IsNumberOf (codes "limit") rows limit × (line ≡ is_given (codes "line") rows)
-    × IsNumberIfGiven (codes "witness") rows witness × (json ≡ is_given (codes "json") rows)
-    × (explain ≡ is_given (codes "explain") rows)
-IsLine name rows (command_lines.Table table exclusive json) =
-    (name ≡ codes "table") × (first_of (codes "TABLE") rows ≡ Some (word_of table))
-    × (exclusive ≡ is_given (codes "exclusive") rows) × (json ≡ is_given (codes "json") rows)
-IsLine name rows (command_lines.WhatIf tables cores rounds states seed exclusive form trace) =
-    (name ≡ codes "what-if") × AreTableFiles rows tables
-    × IsNumberOf (codes "cores") rows cores × IsNumberOf (codes "rounds") rows rounds
-    × IsNumberOf (codes "states") rows states × IsNumberOf (codes "seed") rows seed
-    × (exclusive ≡ is_given (codes "exclusive") rows) × IsWhatIfFormOf rows form
-    × (option_map (λ t. t.now) trace ≡ first_of (codes "from-murphi") rows)
-IsLine name rows (command_lines.Export tables cores exclusive closed) =
+IsLine name rows (command_lines.Generate args) =
+    (name ≡ codes "generate") × (first_of (codes "NAME") rows ≡ Some args.name.now)
+    × IsNumberOf (codes "cores") rows args.cores × IsNumberOf (codes "size") rows args.size
+    × IsNumberOf (codes "seed") rows args.seed
+IsLine name rows (command_lines.Test args) =
+    (name ≡ codes "test") × (first_of (codes "FILE") rows ≡ Some args.file.now)
+    × (args.first ≡ is_given (codes "first") rows) × (args.explain ≡ is_given (codes "explain") rows)
+IsLine name rows (command_lines.Check args) =
+    (name ≡ codes "check") × (first_of (codes "FILE") rows ≡ Some args.file.now)
+    × (args.json ≡ is_given (codes "json") rows) × (args.explain ≡ is_given (codes "explain") rows)
+IsLine name rows (command_lines.Judge args) =
+    (name ≡ codes "judge") × (first_of (codes "FILE") rows ≡ Some args.file.now)
+    × IsNumberOf (codes "limit") rows args.limit × (args.line ≡ is_given (codes "line") rows)
+    × IsNumberIfGiven (codes "witness") rows args.witness × (args.json ≡ is_given (codes "json") rows)
+    × (args.explain ≡ is_given (codes "explain") rows)
+IsLine name rows (command_lines.Table args) =
+    (name ≡ codes "table") × (first_of (codes "TABLE") rows ≡ Some (word_of args.table))
+    × (args.exclusive ≡ is_given (codes "exclusive") rows) × (args.json ≡ is_given (codes "json") rows)
+IsLine name rows (command_lines.WhatIf args) =
+    (name ≡ codes "what-if") × AreTableFiles rows args.tables
+    × IsNumberOf (codes "cores") rows args.cores × IsNumberOf (codes "rounds") rows args.rounds
+    × IsNumberOf (codes "states") rows args.states × IsNumberOf (codes "seed") rows args.seed
+    × (args.exclusive ≡ is_given (codes "exclusive") rows) × IsWhatIfFormOf rows args.form
+    × (option_map (λ t. t.now) args.trace ≡ first_of (codes "from-murphi") rows)
+IsLine name rows (command_lines.Export args) =
     (name ≡ codes "export") × (first_of (codes "FORM") rows ≡ Some (word_of_form Murphi))
-    × AreTableFiles rows tables × (first_of (codes "cores") rows ≡ Some (word_of_number cores))
-    × (exclusive ≡ is_given (codes "exclusive") rows) × (closed ≡ is_given (codes "closed") rows)
-IsLine name rows (command_lines.Queries exclusive) =
+    × AreTableFiles rows args.tables × (first_of (codes "cores") rows ≡ Some (word_of_number args.cores))
+    × (args.exclusive ≡ is_given (codes "exclusive") rows) × (args.closed ≡ is_given (codes "closed") rows)
+IsLine name rows (command_lines.Queries args) =
     (name ≡ codes "export") × (first_of (codes "FORM") rows ≡ Some (word_of_form Smt))
-    × (exclusive ≡ is_given (codes "exclusive") rows)
+    × (args.exclusive ≡ is_given (codes "exclusive") rows)
     × (is_some (first_of (codes "cores") rows) ≡ false) × (is_given (codes "closed") rows ≡ false)
     × (names_tables rows ≡ false)
 

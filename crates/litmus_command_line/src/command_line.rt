@@ -8,6 +8,11 @@ ghost use Rattle.litmus_command_line.specs.CommandLine.{texts_of};
 ghost use Rattle.std.specs.Option.{option_map};
 ghost use Rattle.clap.specs.Words.{found_of, rows_of, first_of, subcommand_rows_of};
 
+use super::args::{
+    ChartArgs, CheckArgs, ExportArgs, GenerateArgs, JudgeArgs, LitmusArgs, MergeArgs, PageArgs,
+    PartArgs, QueriesArgs, RunArgs, ScriptArgs, SweepArgs, TableArgs, TestArgs, TryArgs, WalkArgs,
+    WhatIfArgs,
+};
 use super::export::{ModelCores, ModelForm};
 use super::form::{ScheduleForm, ScriptForm, WhatIfForm};
 use super::subcommands::lockup;
@@ -19,154 +24,44 @@ use std::alloc::{AllocError, Global};
 /// What the program's command line asks for.
 #[derive(Clone, Copy, Debug, PartialEq, Eq)]
 pub enum CommandLine<'a> {
-    /// Run the script in this file, and print the run in this form.
-    Script {
-        file: &'a str,
-        form: ScriptForm,
-    },
+    /// Run a script, and print the run.
+    Script(ScriptArgs<'a>),
     /// Add the counts of runs of scripts, in the files that `read_files` reads.
     Coverage,
-    /// Answer a script's lines one by one, after the script in this file if one is named.
-    Try {
-        file: Option<&'a str>,
-    },
-    /// Draw the run of the script in this file: as a sequence diagram, or with `svg` or a line as the space-time
-    /// diagram of a line.
-    Chart {
-        file: &'a str,
-        svg: bool,
-        line: Option<u64>,
-    },
-    /// Write the run of the script in this file as a page for a browser: with `guess` the page asks for answers before
-    /// it shows them.
-    Page {
-        file: &'a str,
-        guess: bool,
-    },
-    /// Run the litmus test in this file over threads. The seed is that of the cores' extra turns, and no run takes more
-    /// turns than `limit`. With `json`, print its outcomes as a JSON value, and with a round to trace what each slice
-    /// performed in that. Here and below, with `explain` explain an error.
-    Litmus {
-        file: &'a str,
-        seed: u64,
-        limit: u64,
-        trace: Option<u64>,
-        json: bool,
-        explain: bool,
-    },
-    /// Run the litmus test in this file on random schedules: `rounds` rounds, or the test's own number; the first has
-    /// this seed. A round that isn't over after `limit` moves is given up, if a number is given. Print this form of the
-    /// rounds, which `jobs` processors walk in parallel, or of the round of this seed.
-    Walk {
-        file: &'a str,
-        rounds: Option<u64>,
-        seed: u64,
-        limit: Option<u64>,
-        jobs: Option<u64>,
-        form: ScheduleForm,
-        explain: bool,
-    },
-    /// Run the same rounds, and print them as parts, for `Merge` to add up: first the whole ones of the file `resume`,
-    /// if one is named.
-    Part {
-        file: &'a str,
-        resume: Option<&'a str>,
-        rounds: Option<u64>,
-        seed: u64,
-        limit: Option<u64>,
-        jobs: Option<u64>,
-        explain: bool,
-    },
-    /// Join the contents of the files that `read_files` reads: rows, or after a litmus test the parts of its walk. With
-    /// `json`, print the outcomes of parts as a JSON value, and with `mean` the means of rows.
-    Merge {
-        json: bool,
-        mean: bool,
-    },
-    /// Run the programs in this file in the order that the seed draws, with `outstanding` accesses of a core under way
-    /// and up to `pace` deliveries of each slice after an access, or the text's numbers if these aren't given. Print
-    /// this form of the run.
-    Run {
-        file: &'a str,
-        outstanding: Option<u64>,
-        pace: Option<u64>,
-        seed: u64,
-        form: ScheduleForm,
-        explain: bool,
-    },
-    /// Run the programs in this file once for each combination of the settings that `read_settings` reads, and for each
-    /// of the seeds, or for the one seed if none are given. With `json`, print the rows as a JSON value.
-    Sweep {
-        file: &'a str,
-        outstanding: Option<u64>,
-        pace: Option<u64>,
-        seed: u64,
-        seeds: Option<&'a str>,
-        json: bool,
-    },
-    /// Print the programs of the workload with this name, for this many cores and at this size.
-    Generate {
-        name: &'a str,
-        cores: u64,
-        size: u64,
-        seed: u64,
-    },
-    /// Test the script in this file against its expected answers. With `first`, print only the first difference.
-    Test {
-        file: &'a str,
-        first: bool,
-        explain: bool,
-    },
-    /// Judge the trace in this file. With `json`, print the verdict as a JSON value. With `explain`, explain it, or an
-    /// error.
-    Check {
-        file: &'a str,
-        json: bool,
-        explain: bool,
-    },
-    /// Judge the trace in this file, in which the order of several cores' entries isn't known: each word by itself, or
-    /// with `line` the words of each line. Take at most `limit` steps to try orders of one. With `witness`, print the
-    /// order of the one with this number, and with `json`, the verdict as a JSON value. With `explain`, explain an
-    /// error.
-    Judge {
-        file: &'a str,
-        limit: u64,
-        line: bool,
-        witness: Option<u64>,
-        json: bool,
-        explain: bool,
-    },
-    /// Print a table of the protocol, with or without the exclusive state. With `json`, print its cells as JSON values.
-    Table {
-        table: Table,
-        exclusive: bool,
-        json: bool,
-    },
-    /// Play one line of memory on this number of cores under the tables in these files, with or without the exclusive
-    /// state: `states` states in breadth, and then `rounds` rounds of random steps, the first with this seed. Or replay
-    /// what a model checker printed, in the file `trace`. Show what broke in this form.
-    WhatIf {
-        tables: TableFiles<'a>,
-        cores: u64,
-        rounds: u64,
-        states: u64,
-        seed: u64,
-        exclusive: bool,
-        form: WhatIfForm,
-        trace: Option<&'a str>,
-    },
-    /// Print a line's protocol, or that of the tables in these files, as a model of this number of cores, with or
-    /// without the exclusive state, and what can be completed once no core makes requests any more, or not.
-    Export {
-        tables: TableFiles<'a>,
-        cores: ModelCores,
-        exclusive: bool,
-        closed: bool,
-    },
-    /// Print a line's protocol as queries for any number of cores, with or without the exclusive state.
-    Queries {
-        exclusive: bool,
-    },
+    /// Answer a script's lines one by one.
+    Try(TryArgs<'a>),
+    /// Draw a script's run.
+    Chart(ChartArgs<'a>),
+    /// Write a script's run as a page for a browser.
+    Page(PageArgs<'a>),
+    /// Run a litmus test over threads.
+    Litmus(LitmusArgs<'a>),
+    /// Run a litmus test on random schedules.
+    Walk(WalkArgs<'a>),
+    /// Run some of these rounds, and print them as parts.
+    Part(PartArgs<'a>),
+    /// Join rows, or parts of a walk.
+    Merge(MergeArgs),
+    /// Run programs.
+    Run(RunArgs<'a>),
+    /// Run programs once for each row of settings.
+    Sweep(SweepArgs<'a>),
+    /// Print the programs of a workload.
+    Generate(GenerateArgs<'a>),
+    /// Test a script against its expected answers.
+    Test(TestArgs<'a>),
+    /// Judge a trace.
+    Check(CheckArgs<'a>),
+    /// Judge a trace in which the order of several cores' entries isn't known.
+    Judge(JudgeArgs<'a>),
+    /// Print a table of the protocol.
+    Table(TableArgs),
+    /// Play one line of memory under tables.
+    WhatIf(WhatIfArgs<'a>),
+    /// Print a line's protocol as a model of some cores.
+    Export(ExportArgs<'a>),
+    /// Print a line's protocol as queries for any number of cores.
+    Queries(QueriesArgs),
 }
 
 /// Reads the program's words; the first is its own name. What is refused, and help, is an error that says what to
@@ -275,7 +170,7 @@ fn script_line<'a>(given: &ArgMatches<'a>) -> Option<CommandLine<'a>>
 {
     let file = file_of(given)?;
     let form = form_of(given)?;
-    Some(CommandLine::Script { file, form })
+    Some(CommandLine::Script(ScriptArgs { file, form }))
 }
 
 /// Returns the form that the options ask for, if they ask for only one. The command has refused all others.
@@ -311,7 +206,7 @@ fn try_line<'a>(given: &ArgMatches<'a>) -> Option<CommandLine<'a>>
     ensures { IfSome result (IsLine (codes "try") (rows_of (found_of given.now))) }
 {
     let file = file_if_given(given);
-    Some(CommandLine::Try { file })
+    Some(CommandLine::Try(TryArgs { file }))
 }
 
 fn chart_line<'a>(given: &ArgMatches<'a>) -> Option<CommandLine<'a>>
@@ -320,7 +215,7 @@ fn chart_line<'a>(given: &ArgMatches<'a>) -> Option<CommandLine<'a>>
     let file = file_of(given)?;
     let svg = is_given(given, "svg");
     let line = number_if_given(given, "line")?;
-    Some(CommandLine::Chart { file, svg, line })
+    Some(CommandLine::Chart(ChartArgs { file, svg, line }))
 }
 
 fn page_line<'a>(given: &ArgMatches<'a>) -> Option<CommandLine<'a>>
@@ -328,7 +223,7 @@ fn page_line<'a>(given: &ArgMatches<'a>) -> Option<CommandLine<'a>>
 {
     let file = file_of(given)?;
     let guess = is_given(given, "guess");
-    Some(CommandLine::Page { file, guess })
+    Some(CommandLine::Page(PageArgs { file, guess }))
 }
 
 fn litmus_line<'a>(given: &ArgMatches<'a>) -> Option<CommandLine<'a>>
@@ -340,14 +235,14 @@ fn litmus_line<'a>(given: &ArgMatches<'a>) -> Option<CommandLine<'a>>
     let trace = number_if_given(given, "trace")?;
     let json = is_given(given, "json");
     let explain = is_given(given, "explain");
-    Some(CommandLine::Litmus {
+    Some(CommandLine::Litmus(LitmusArgs {
         file,
         seed,
         limit,
         trace,
         json,
         explain,
-    })
+    }))
 }
 
 fn walk_line<'a>(given: &ArgMatches<'a>) -> Option<CommandLine<'a>>
@@ -362,7 +257,7 @@ fn walk_line<'a>(given: &ArgMatches<'a>) -> Option<CommandLine<'a>>
     let form = schedule_form_of(given)?;
     let explain = is_given(given, "explain");
     match (prints_parts(given), form) {
-        (false, form) => Some(CommandLine::Walk {
+        (false, form) => Some(CommandLine::Walk(WalkArgs {
             file,
             rounds,
             seed,
@@ -370,8 +265,8 @@ fn walk_line<'a>(given: &ArgMatches<'a>) -> Option<CommandLine<'a>>
             jobs,
             form,
             explain,
-        }),
-        (true, ScheduleForm::Report { json: false }) => Some(CommandLine::Part {
+        })),
+        (true, ScheduleForm::Report { json: false }) => Some(CommandLine::Part(PartArgs {
             file,
             resume,
             rounds,
@@ -379,7 +274,7 @@ fn walk_line<'a>(given: &ArgMatches<'a>) -> Option<CommandLine<'a>>
             limit,
             jobs,
             explain,
-        }),
+        })),
         // The command has refused a part in another form.
         (true, _) => None,
     }
@@ -391,7 +286,7 @@ fn merge_line<'a>(given: &ArgMatches<'a>) -> Option<CommandLine<'a>>
     let _first = file_of(given)?;
     let json = is_given(given, "json");
     let mean = is_given(given, "mean");
-    Some(CommandLine::Merge { json, mean })
+    Some(CommandLine::Merge(MergeArgs { json, mean }))
 }
 
 /// Returns the form that the options ask for, if they ask for only one. The command has refused all others.
@@ -423,25 +318,25 @@ fn run_line<'a>(given: &ArgMatches<'a>) -> Option<CommandLine<'a>>
     if !is_swept(given) {
         let form = schedule_form_of(given)?;
         let explain = is_given(given, "explain");
-        return Some(CommandLine::Run {
+        return Some(CommandLine::Run(RunArgs {
             file,
             outstanding,
             pace,
             seed,
             form,
             explain,
-        });
+        }));
     }
     let json = is_given(given, "json");
     let seeds = text_if_given(given, "seeds");
-    Some(CommandLine::Sweep {
+    Some(CommandLine::Sweep(SweepArgs {
         file,
         outstanding,
         pace,
         seed,
         seeds,
         json,
-    })
+    }))
 }
 
 fn generate_line<'a>(given: &ArgMatches<'a>) -> Option<CommandLine<'a>>
@@ -451,12 +346,12 @@ fn generate_line<'a>(given: &ArgMatches<'a>) -> Option<CommandLine<'a>>
     let cores = number_of(given, "cores")?;
     let size = number_of(given, "size")?;
     let seed = number_of(given, "seed")?;
-    Some(CommandLine::Generate {
+    Some(CommandLine::Generate(GenerateArgs {
         name,
         cores,
         size,
         seed,
-    })
+    }))
 }
 
 fn test_line<'a>(given: &ArgMatches<'a>) -> Option<CommandLine<'a>>
@@ -465,11 +360,11 @@ fn test_line<'a>(given: &ArgMatches<'a>) -> Option<CommandLine<'a>>
     let file = file_of(given)?;
     let first = is_given(given, "first");
     let explain = is_given(given, "explain");
-    Some(CommandLine::Test {
+    Some(CommandLine::Test(TestArgs {
         file,
         first,
         explain,
-    })
+    }))
 }
 
 fn check_line<'a>(given: &ArgMatches<'a>) -> Option<CommandLine<'a>>
@@ -478,11 +373,11 @@ fn check_line<'a>(given: &ArgMatches<'a>) -> Option<CommandLine<'a>>
     let file = file_of(given)?;
     let json = is_given(given, "json");
     let explain = is_given(given, "explain");
-    Some(CommandLine::Check {
+    Some(CommandLine::Check(CheckArgs {
         file,
         json,
         explain,
-    })
+    }))
 }
 
 fn judge_line<'a>(given: &ArgMatches<'a>) -> Option<CommandLine<'a>>
@@ -494,14 +389,14 @@ fn judge_line<'a>(given: &ArgMatches<'a>) -> Option<CommandLine<'a>>
     let witness = number_if_given(given, "witness")?;
     let json = is_given(given, "json");
     let explain = is_given(given, "explain");
-    Some(CommandLine::Judge {
+    Some(CommandLine::Judge(JudgeArgs {
         file,
         limit,
         line,
         witness,
         json,
         explain,
-    })
+    }))
 }
 
 fn table_line<'a>(given: &ArgMatches<'a>) -> Option<CommandLine<'a>>
@@ -510,11 +405,11 @@ fn table_line<'a>(given: &ArgMatches<'a>) -> Option<CommandLine<'a>>
     let table = table_of(given)?;
     let exclusive = is_given(given, "exclusive");
     let json = is_given(given, "json");
-    Some(CommandLine::Table {
+    Some(CommandLine::Table(TableArgs {
         table,
         exclusive,
         json,
-    })
+    }))
 }
 
 fn what_if_line<'a>(given: &ArgMatches<'a>) -> Option<CommandLine<'a>>
@@ -528,7 +423,7 @@ fn what_if_line<'a>(given: &ArgMatches<'a>) -> Option<CommandLine<'a>>
     let exclusive = is_given(given, "exclusive");
     let form = what_if_form_of(given)?;
     let trace = text_if_given(given, "from-murphi");
-    Some(CommandLine::WhatIf {
+    Some(CommandLine::WhatIf(WhatIfArgs {
         tables,
         cores,
         rounds,
@@ -537,7 +432,7 @@ fn what_if_line<'a>(given: &ArgMatches<'a>) -> Option<CommandLine<'a>>
         exclusive,
         form,
         trace,
-    })
+    }))
 }
 
 /// Returns the form that the options ask for, if they ask for only one. The command has refused all others.
@@ -581,12 +476,12 @@ fn model_line<'a>(given: &ArgMatches<'a>) -> Option<CommandLine<'a>>
     let cores = model_cores_of(given)?;
     let exclusive = is_given(given, "exclusive");
     let closed = is_given(given, "closed");
-    Some(CommandLine::Export {
+    Some(CommandLine::Export(ExportArgs {
         tables,
         cores,
         exclusive,
         closed,
-    })
+    }))
 }
 
 fn queries_line<'a>(given: &ArgMatches<'a>) -> Option<CommandLine<'a>>
@@ -597,7 +492,7 @@ fn queries_line<'a>(given: &ArgMatches<'a>) -> Option<CommandLine<'a>>
     if is_given(given, "closed") || has_text(given, "cores") || names_tables(given) {
         return None;
     }
-    Some(CommandLine::Queries { exclusive })
+    Some(CommandLine::Queries(QueriesArgs { exclusive }))
 }
 
 fn file_of<'a>(given: &ArgMatches<'a>) -> Option<&'a str>

@@ -6,11 +6,17 @@
 //! or rows. There may be any number of them.
 #![tactic(auto)]
 
+pub use args::{
+    ChartArgs, CheckArgs, ExportArgs, GenerateArgs, JudgeArgs, LitmusArgs, MergeArgs, PageArgs,
+    PartArgs, QueriesArgs, RunArgs, ScriptArgs, SweepArgs, TableArgs, TestArgs, TryArgs, WalkArgs,
+    WhatIfArgs,
+};
 pub use command_line::{CommandLine, read_files, read_line, read_settings};
 pub use export::ModelCores;
 pub use form::{ScheduleForm, ScriptForm, WhatIfForm};
 pub use table::{Table, TableFiles};
 
+mod args;
 mod command_line;
 mod export;
 mod form;

@@ -1,16 +1,17 @@
-//! The program `lockup`: reads its command line, and runs the text or prints the table or the model that it names, or
-//! answers lines of standard input one by one.
+//! The program `lockup`: reads its command line, and does what the subcommand in it asks for. Most read one text and
+//! print what it comes to: each of these is a [`Subcommand`](subcommand::Subcommand), in a file of its own.
 //!
 //! Answers go to standard output, through one buffer. A fault goes to standard error as one line, after all
 //! answers that came before it. Threads are started only by a litmus test that runs over threads, and for rows of
 //! programs.
 #![tactic(auto)]
 
-use answers::answer;
-use litmus::{CommandLine, Limits, Seeds, Size, SweepFault, read_line};
-use lockup_front::{People, Rows, add_coverage, print_rows, print_workload, report, show};
-use merged::merge;
-use models::run_under_tables;
+use export::export;
+use litmus::{CommandLine, read_line};
+use lockup_front::{
+    People, add_coverage, print_rows, print_what_breaks, print_workload, report, show,
+};
+use merge::merge;
 use std::env::VarError;
 use std::io::IsTerminal;
 use std::process::ExitCode;
@@ -19,14 +20,22 @@ use std::sync::Wait;
 use std::thread::Threads;
 use std::{env, io};
 
-mod answers;
-mod explained;
-mod judged;
-mod merged;
-mod models;
-mod remarks;
-mod schedules;
-mod scripts;
+mod chart;
+mod check;
+mod exercise;
+mod export;
+mod judge;
+mod merge;
+mod outcomes;
+mod page;
+mod part;
+mod programs;
+mod prompt;
+mod script;
+mod subcommand;
+mod table;
+mod threads;
+mod walk;
 
 fn main(rt: HostRuntime) -> ExitCode {
     let is_watched = rt.stderr().is_terminal();
@@ -80,38 +89,25 @@ where
     R: Env + Files + Input + AllocGlobal + Print + Eprint + Threads + Wait + Sync,
 {
     match line {
-        CommandLine::Sweep {
-            file,
-            outstanding,
-            pace,
-            seed,
-            seeds,
-            json,
-        } => {
-            let limits = Limits { outstanding, pace };
-            let rows = Rows { file, limits, json };
-            print_rows(rt, people, words, seeds_of(seed, seeds), rows)
-        }
-        CommandLine::Generate {
-            name,
-            cores,
-            size,
-            seed,
-        } => print_workload(rt, people, name, Size { cores, size, seed }),
+        CommandLine::Script(args) => subcommand::run(rt, people, &args),
         CommandLine::Coverage => add_coverage(rt, people, words),
-        CommandLine::Merge { json, mean } => merge(rt, people, words, json, mean),
-        CommandLine::WhatIf { .. } | CommandLine::Export { .. } => {
-            run_under_tables(rt, people, line)
-        }
-        _ => answer(rt, line, people),
-    }
-}
-
-/// Returns the seeds that are given, or else the one.
-fn seeds_of<'a>(seed: u64, seeds: Option<&'a str>) -> Result<Seeds, SweepFault<'a>> {
-    match seeds {
-        Some(text) => Seeds::read(text),
-        None => Ok(Seeds::one(seed)),
+        CommandLine::Try(args) => subcommand::run(rt, people, &args),
+        CommandLine::Chart(args) => subcommand::run(rt, people, &args),
+        CommandLine::Page(args) => subcommand::run(rt, people, &args),
+        CommandLine::Litmus(args) => subcommand::run(rt, people, &args),
+        CommandLine::Walk(args) => subcommand::run(rt, people, &args),
+        CommandLine::Part(args) => subcommand::run(rt, people, &args),
+        CommandLine::Merge(args) => merge(rt, people, words, args),
+        CommandLine::Run(args) => subcommand::run(rt, people, &args),
+        CommandLine::Sweep(args) => print_rows(rt, people, words, args),
+        CommandLine::Generate(args) => print_workload(rt, people, args),
+        CommandLine::Test(args) => subcommand::run(rt, people, &args),
+        CommandLine::Check(args) => subcommand::run(rt, people, &args),
+        CommandLine::Judge(args) => subcommand::run(rt, people, &args),
+        CommandLine::Table(args) => subcommand::run(rt, people, &args),
+        CommandLine::WhatIf(args) => print_what_breaks(rt, people, args),
+        CommandLine::Export(args) => export(rt, people, args),
+        CommandLine::Queries(args) => subcommand::run(rt, people, &args),
     }
 }
 

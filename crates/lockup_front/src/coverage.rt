@@ -1,7 +1,7 @@
 //! The sum of what runs of scripts counted.
 
 use super::files::read;
-use super::people::{People, REFUSED, complain, report, show};
+use super::people::{People, REFUSED, complain, end, report, show};
 use litmus_command_line::read_files;
 use litmus_text::TextFault;
 use script_coverage::{Coverage, print_coverage};
@@ -34,17 +34,6 @@ where
     }
 }
 
-/// Returns the exit status, and complains of a fault.
-fn end<R: Eprint>(rt: &R, people: People, printed: Result<(), TextFault>) -> u8 {
-    match printed {
-        Ok(()) => 0,
-        Err(fault) => {
-            complain(rt, people, fault);
-            fault.status()
-        }
-    }
-}
-
 /// Adds the counts in these files. At Err, the error was reported, and this is the exit status.
 fn add_files<R>(rt: &R, people: People, files: &[&str], coverage: &mut Coverage) -> Result<(), u8>
 where
@@ -72,13 +61,14 @@ where
     }
 }
 
-fn print<R: AllocGlobal + Print>(rt: &R, coverage: &Coverage) -> Result<(), TextFault> {
+fn print<R: AllocGlobal + Print>(rt: &R, coverage: &Coverage) -> Result<u8, TextFault> {
     let Ok(mut out) = BufWriter::new(rt.alloc(), io::writer(rt)) else {
         return Err(TextFault::NoMemory);
     };
     let written = print_coverage(coverage, &mut out);
-    match out.flush() {
-        Ok(()) => written,
-        Err(_) => Err(TextFault::CannotWrite),
+    match (written, out.flush()) {
+        (Ok(()), Ok(())) => Ok(0),
+        (Err(fault), _) => Err(fault),
+        (Ok(()), Err(_)) => Err(TextFault::CannotWrite),
     }
 }

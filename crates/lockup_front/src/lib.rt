@@ -1,7 +1,8 @@
 //! What the subcommands of the program share, and those that print by themselves.
 //!
-//! - [`People`] are who is at the other end: [`complain`], [`report`] and [`show`] report errors to them, [`Shown`] how
-//!   far a long run is, and [`Painted`] colors their answers. [`read`] reads a file, or standard input.
+//! - [`People`] are who is at the other end: [`complain`], [`report`] and [`show`] report errors to them, [`end`] what
+//!   came of printing, [`Shown`] how far a long run is, and [`Painted`] colors their answers. [`read`] reads a file, or
+//!   standard input.
 //! - [`print_rows`], [`print_workload`], [`add_coverage`], [`answer_lines`] and [`print_what_breaks`] each do what a
 //!   subcommand asks for; [`read_tables`] reads tables with changed cells, [`known_parts`] those of a walk that goes on,
 //!   [`merged_parts`] puts parts together, and [`print_merged_rows`] rows.
@@ -14,14 +15,14 @@ pub use head::head_of;
 pub use merged_rows::print_merged_rows;
 pub use painted::Painted;
 pub use parts::{known_parts, merged_parts};
-pub use people::{People, REFUSED, complain, report, show};
+pub use people::{People, REFUSED, complain, end, report, show};
 pub use progress::{Counted, Shown};
 pub use prompt::answer_lines;
-pub use rows::{Rows, print_rows};
+pub use rows::print_rows;
 pub use table_files::read_tables;
 pub use unforbidden::tell_unforbidden;
 pub use unused::tell_unused;
-pub use what_breaks::{Play, print_what_breaks};
+pub use what_breaks::print_what_breaks;
 pub use workload::print_workload;
 
 mod coverage;

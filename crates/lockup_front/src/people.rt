@@ -1,6 +1,8 @@
 //! Who is at the other end, and what is reported to them.
 
-ghost use Rattle.std.specs.Prelude.{◌<◌};
+ghost use Rattle.std.specs.Prelude.{◌≡◌, ◌<◌};
+ghost use Rattle.litmus_text.specs.Fault as faults;
+ghost use Rattle.lockup_front.specs.Status.{status_of};
 
 use clap::Error;
 use clap::error::ErrorKind;
@@ -24,16 +26,12 @@ pub struct People {
 /// Shows what the reader of the command line has to say: help, or why it was refused.
 pub fn show<R: Print + Eprint>(rt: &R, people: People, error: &Error) -> u8 {
     if error.kind() == ErrorKind::OutOfMemory {
-        complain(rt, people, TextFault::NoMemory);
-        return TextFault::NoMemory.status();
+        return fail(rt, people, TextFault::NoMemory);
     }
     match error.print(rt) {
         Ok(()) if !error.use_stderr() => 0,
         Ok(()) => REFUSED,
-        Err(_) => {
-            complain(rt, people, TextFault::CannotWrite);
-            TextFault::CannotWrite.status()
-        }
+        Err(_) => fail(rt, people, TextFault::CannotWrite),
     }
 }
 
@@ -42,8 +40,7 @@ pub fn report<R: Eprint>(rt: &R, people: People, error: &io::Error, text: impl D
     ensures { 0 < result }
 {
     if error.kind() == io::ErrorKind::OutOfMemory {
-        complain(rt, people, TextFault::NoMemory);
-        return TextFault::NoMemory.status();
+        return fail(rt, people, TextFault::NoMemory);
     }
     complain(rt, people, text);
     REFUSED
@@ -56,4 +53,22 @@ pub fn complain<R: Eprint>(rt: &R, people: People, text: impl Display + Drop) {
     } else {
         eprintln!(rt; "lockup: {text}")
     };
+}
+
+/// Returns the exit status of what was printed, and complains of a fault.
+pub fn end<R: Eprint>(rt: &R, people: People, printed: Result<u8, TextFault>) -> u8
+    ensures { result ≡ status_of printed }
+{
+    match printed {
+        Ok(status) => status,
+        Err(fault) => fail(rt, people, fault),
+    }
+}
+
+/// Complains of a fault, and returns the exit status.
+pub(crate) fn fail<R: Eprint>(rt: &R, people: People, fault: TextFault) -> u8
+    ensures { result ≡ faults.status_of fault }
+{
+    complain(rt, people, fault);
+    fault.status()
 }

@@ -1,5 +1,6 @@
 //! How far a long run is.
 
+use super::people::People;
 use litmus_test::Progress;
 
 /// How many rounds lie between two reports of how far a run has got. Before the first, rounds that take long
@@ -40,9 +41,20 @@ impl Counted {
 /// Shows on standard error how much of a long run is done, if somebody watches.
 #[derive(Drop)]
 pub struct Shown<'a, R: Eprint> {
-    pub rt: &'a R,
-    pub is_watched: bool,
-    pub counted: Counted,
+    rt: &'a R,
+    is_watched: bool,
+    counted: Counted,
+}
+
+impl<'a, R: Eprint> Shown<'a, R> {
+    /// Returns what shows these people how many are done.
+    pub const fn new(rt: &'a R, people: People, counted: Counted) -> Self {
+        Shown {
+            rt,
+            is_watched: people.watch,
+            counted,
+        }
+    }
 }
 
 impl<R: Eprint> Progress for Shown<'_, R> {

@@ -1,10 +1,10 @@
 //! The rows of a sweep.
 
 use super::files::read;
-use super::people::{People, complain, report, show};
+use super::people::{People, complain, fail, report, show};
 use super::progress::{Counted, Shown};
 use super::unused::tell_unused_settings;
-use litmus_command_line::read_settings;
+use litmus_command_line::{SweepArgs, read_settings};
 use litmus_text::TextFault;
 use program_sweep::{RowFault, RowForm, Seeds, Sweep, SweepFault, program_name, run_sweep};
 use program_text::Limits;
@@ -13,44 +13,24 @@ use std::io::{self, BufWriter, Write};
 use std::rt::Files;
 use std::thread::Threads;
 
-/// What the command line gives for rows besides their settings and seeds.
-#[derive(Clone, Copy)]
-pub struct Rows<'a> {
-    pub file: &'a str,
-    pub limits: Limits,
-    pub json: bool,
-}
-
 /// Runs the programs in a file once for each row that the command line asks for, and prints the rows. Returns the exit
 /// status.
-pub fn print_rows<R>(
-    rt: &R,
-    people: People,
-    words: &[String],
-    seeds: Result<Seeds, SweepFault<'_>>,
-    rows: Rows<'_>,
-) -> u8
+pub fn print_rows<R>(rt: &R, people: People, words: &[String], args: SweepArgs<'_>) -> u8
 where
     R: Files + Input + AllocGlobal + Print + Eprint + Threads + Sync,
 {
     match read_settings(rt.alloc(), words) {
-        Ok(settings) => run_settings(rt, people, settings.as_slice(), seeds, rows),
+        Ok(settings) => run_settings(rt, people, settings.as_slice(), args),
         Err(error) => show(rt, people, &error),
     }
 }
 
-fn run_settings<R>(
-    rt: &R,
-    people: People,
-    settings: &[&str],
-    seeds: Result<Seeds, SweepFault<'_>>,
-    rows: Rows<'_>,
-) -> u8
+fn run_settings<R>(rt: &R, people: People, settings: &[&str], args: SweepArgs<'_>) -> u8
 where
     R: Files + Input + AllocGlobal + Print + Eprint + Threads + Sync,
 {
-    match read_sweep(rt.alloc(), settings, seeds, rows.limits) {
-        Ok(sweep) => read_and_run(rt, people, &sweep, rows),
+    match read_sweep(rt.alloc(), settings, args) {
+        Ok(sweep) => read_and_run(rt, people, &sweep, args),
         Err(fault) => {
             complain(rt, people, fault);
             fault.status()
@@ -58,30 +38,25 @@ where
     }
 }
 
-fn read_and_run<R>(rt: &R, people: People, sweep: &Sweep<'_>, rows: Rows<'_>) -> u8
+fn read_and_run<R>(rt: &R, people: People, sweep: &Sweep<'_>, args: SweepArgs<'_>) -> u8
 where
     R: Files + Input + AllocGlobal + Print + Eprint + Threads + Sync,
 {
-    let file = rows.file;
+    let file = args.file;
     match read(rt, file) {
-        Ok(input) => run_input(rt, people, input.as_slice(), sweep, rows),
+        Ok(input) => run_input(rt, people, input.as_slice(), sweep, args),
         Err(error) => report(rt, people, &error, format_args!("cannot read {file}")),
     }
 }
 
-fn run_input<R>(rt: &R, people: People, input: &[u8], sweep: &Sweep<'_>, rows: Rows<'_>) -> u8
+fn run_input<R>(rt: &R, people: People, input: &[u8], sweep: &Sweep<'_>, args: SweepArgs<'_>) -> u8
 where
     R: Files + Input + AllocGlobal + Print + Eprint + Threads + Sync,
 {
-    let form = if rows.json {
-        RowForm::Json
-    } else {
-        RowForm::Csv
-    };
-    match write_rows(rt, people, input, sweep, rows.file, form) {
+    match write_rows(rt, people, input, sweep, args) {
         Ok(()) => {
             let settings = sweep.settings.as_slice();
-            tell_unused_settings(rt, people, input, settings, rows.limits);
+            tell_unused_settings(rt, people, input, settings, limits_of(args));
             0
         }
         Err(fault) => complain_of(rt, people, sweep, fault),
@@ -91,10 +66,21 @@ where
 fn read_sweep<'a>(
     alloc: Global,
     settings: &[&'a str],
-    seeds: Result<Seeds, SweepFault<'a>>,
-    limits: Limits,
+    args: SweepArgs<'a>,
 ) -> Result<Sweep<'a>, SweepFault<'a>> {
-    Sweep::read(alloc, settings, seeds?, limits)
+    let seeds = match args.seeds {
+        Some(text) => Seeds::read(text)?,
+        None => Seeds::one(args.seed),
+    };
+    Sweep::read(alloc, settings, seeds, limits_of(args))
+}
+
+/// Returns the limits that are given.
+const fn limits_of(args: SweepArgs<'_>) -> Limits {
+    Limits {
+        outstanding: args.outstanding,
+        pace: args.pace,
+    }
 }
 
 /// Prints the rows, including those before a fault.
@@ -103,21 +89,21 @@ fn write_rows<R>(
     people: People,
     input: &[u8],
     sweep: &Sweep<'_>,
-    file: &str,
-    form: RowForm,
+    args: SweepArgs<'_>,
 ) -> Result<(), RowFault>
 where
     R: Files + Input + AllocGlobal + Print + Eprint + Threads + Sync,
 {
-    let program = program_name(rt.alloc(), form, file)?;
+    let form = if args.json {
+        RowForm::Json
+    } else {
+        RowForm::Csv
+    };
+    let program = program_name(rt.alloc(), form, args.file)?;
     let Ok(mut out) = BufWriter::new(rt.alloc(), io::writer(rt)) else {
         return Err(RowFault::NoMemory);
     };
-    let mut shown = Shown {
-        rt,
-        is_watched: people.watch,
-        counted: Counted::Rows,
-    };
+    let mut shown = Shown::new(rt, people, Counted::Rows);
     let ran = run_sweep(
         rt.alloc(),
         rt,
@@ -143,19 +129,12 @@ where
         RowFault::Row { row, refusal } => {
             let mut name = String::new(rt.alloc());
             if sweep.name(row, &mut name).is_err() {
-                complain(rt, people, TextFault::NoMemory);
-                return TextFault::NoMemory.status();
+                return fail(rt, people, TextFault::NoMemory);
             }
             complain(rt, people, format_args!("{name}: {refusal}"));
             refusal.status()
         }
-        RowFault::CannotWrite => {
-            complain(rt, people, TextFault::CannotWrite);
-            TextFault::CannotWrite.status()
-        }
-        RowFault::NoMemory => {
-            complain(rt, people, TextFault::NoMemory);
-            TextFault::NoMemory.status()
-        }
+        RowFault::CannotWrite => fail(rt, people, TextFault::CannotWrite),
+        RowFault::NoMemory => fail(rt, people, TextFault::NoMemory),
     }
 }

@@ -1,14 +1,14 @@
 //! What changed cells of the tables break on one line of memory.
 
 use super::files::read;
-use super::people::{People, REFUSED, complain, report};
+use super::people::{People, REFUSED, complain, end, fail, report};
 use super::table_files::read_tables;
 use super::what_drawn::diagram_of;
 use super::what_page::write_page;
 use address_map::CoreId;
 use changed_tables::Tables;
 use litmus_chart::write_drawing;
-use litmus_command_line::{TableFiles, WhatIfForm};
+use litmus_command_line::{WhatIfArgs, WhatIfForm};
 use litmus_script::TextWriter;
 use litmus_text::{LineFault, Lines, TextFault};
 use murphi_trace::{Rule, rule_told_by};
@@ -20,18 +20,6 @@ use std::rt::Files;
 use what_if::{
     Answer, Effort, Line, Promise, Step, Told, Tried, replay, what_if, write_told, write_told_json,
 };
-
-/// What is played on `cores` cores, and how it is shown: the steps of a trace in this file, or what a search among
-/// `states` states finds and then rounds, the first of them with this seed.
-#[derive(Clone, Copy)]
-pub struct Play<'a> {
-    pub cores: u64,
-    pub states: u64,
-    pub rounds: u64,
-    pub seed: u64,
-    pub trace: Option<&'a str>,
-    pub form: WhatIfForm,
-}
 
 /// The exit status where a promise broke.
 const BROKEN: u8 = 1;
@@ -46,54 +34,35 @@ struct Found {
 }
 
 /// Plays a line under the tables in these files, and prints what broke. Returns the exit status.
-pub fn print_what_breaks<R>(
-    rt: &R,
-    people: People,
-    files: TableFiles<'_>,
-    exclusive: bool,
-    play: Play<'_>,
-) -> u8
+pub fn print_what_breaks<R>(rt: &R, people: People, args: WhatIfArgs<'_>) -> u8
 where
     R: Files + Input + AllocGlobal + Print + Eprint,
 {
-    let tables = match read_tables(rt, people, files, exclusive) {
+    let tables = match read_tables(rt, people, args.tables, args.exclusive) {
         Ok(tables) => tables,
         Err(status) => return status,
     };
-    let found = match play.trace {
-        Some(file) => replayed(rt, people, &tables, play.cores, file),
-        None => searched(rt, people, &tables, play),
+    let found = match args.trace {
+        Some(file) => replayed(rt, people, &tables, args.cores, file),
+        None => searched(rt, people, &tables, args),
     };
     match found {
-        Ok(found) => end(rt, people, print(rt, &tables, &found, play.form)),
+        Ok(found) => end(rt, people, print(rt, &tables, &found, args.form)),
         Err(status) => status,
     }
-}
-
-/// Returns the exit status, and complains of a fault.
-fn end<R: Eprint>(rt: &R, people: People, printed: Result<u8, TextFault>) -> u8 {
-    match printed {
-        Ok(status) => status,
-        Err(fault) => failed(rt, people, fault),
-    }
-}
-
-fn failed<R: Eprint>(rt: &R, people: People, fault: TextFault) -> u8 {
-    complain(rt, people, fault);
-    fault.status()
 }
 
 fn searched<R: AllocGlobal + Eprint>(
     rt: &R,
     people: People,
     tables: &Tables,
-    play: Play<'_>,
+    args: WhatIfArgs<'_>,
 ) -> Result<Found, u8> {
-    let cores = u8::try_from(play.cores).unwrap_or(u8::MAX);
+    let cores = u8::try_from(args.cores).unwrap_or(u8::MAX);
     let effort = Effort {
-        states: play.states,
-        rounds: play.rounds,
-        seed: play.seed,
+        states: args.states,
+        rounds: args.rounds,
+        seed: args.seed,
     };
     match what_if(rt.alloc(), tables, cores, effort) {
         Ok(Answer::Broken(run)) => Ok(Found {
@@ -108,7 +77,7 @@ fn searched<R: AllocGlobal + Eprint>(
             broken: None,
             tried: Some(tried),
         }),
-        Err(_) => Err(failed(rt, people, TextFault::NoMemory)),
+        Err(_) => Err(fail(rt, people, TextFault::NoMemory)),
     }
 }
 
@@ -122,9 +91,9 @@ where
         Err(error) => return Err(report(rt, people, &error, format_args!("cannot read {file}"))),
     };
     let mut steps = match steps_of(rt, &text) {
-        Ok(steps) if steps.is_empty() => return Err(failed(rt, people, LineFault::NotATrace.at(1))),
+        Ok(steps) if steps.is_empty() => return Err(fail(rt, people, LineFault::NotATrace.at(1))),
         Ok(steps) => steps,
-        Err(fault) => return Err(failed(rt, people, fault)),
+        Err(fault) => return Err(fail(rt, people, fault)),
     };
     let cores = cores_of(&steps, cores);
     if let Some(number) = first_that_waits(tables, cores, &steps) {
@@ -136,7 +105,7 @@ where
         return Err(REFUSED);
     }
     if let Err(error) = add_last(tables, cores, &mut steps) {
-        return Err(failed(rt, people, error));
+        return Err(fail(rt, people, error));
     }
     Ok(Found {
         broken: replay(tables, cores, &steps),

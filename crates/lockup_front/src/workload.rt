@@ -1,15 +1,16 @@
 //! The programs of a workload.
 
 use super::people::{People, complain};
+use litmus_command_line::GenerateArgs;
 use program_text::{GenerateFault, Size, Workload, write_workload};
 use std::io::{self, BufWriter, Write};
 
 /// Prints the programs of a workload, and returns the exit status.
-pub fn print_workload<R>(rt: &R, people: People, name: &str, size: Size) -> u8
+pub fn print_workload<R>(rt: &R, people: People, args: GenerateArgs<'_>) -> u8
 where
     R: AllocGlobal + Print + Eprint,
 {
-    match print(rt, name, size) {
+    match print(rt, args) {
         Ok(()) => 0,
         Err(fault) => {
             complain(rt, people, fault);
@@ -18,9 +19,17 @@ where
     }
 }
 
-fn print<R: AllocGlobal + Print>(rt: &R, name: &str, size: Size) -> Result<(), GenerateFault> {
-    let Some(workload) = Workload::named(name) else {
+fn print<R>(rt: &R, args: GenerateArgs<'_>) -> Result<(), GenerateFault>
+where
+    R: AllocGlobal + Print,
+{
+    let Some(workload) = Workload::named(args.name) else {
         return Err(GenerateFault::Unknown);
+    };
+    let size = Size {
+        cores: args.cores,
+        size: args.size,
+        seed: args.seed,
     };
     let Ok(mut out) = BufWriter::new(rt.alloc(), io::writer(rt)) else {
         return Err(GenerateFault::NoMemory);

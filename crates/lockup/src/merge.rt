@@ -1,11 +1,10 @@
 //! `merge`: rows of several files together, or after a litmus test the parts of its walk.
 
-use super::answers::end;
-use super::schedules::outcome_form;
-use litmus::{Merged, print_merged, read_files};
+use super::outcomes::outcome_form;
+use litmus::{MergeArgs, Merged, print_merged, read_files};
 use litmus_text::TextFault;
 use lockup_front::{
-    People, REFUSED, complain, merged_parts, print_merged_rows, read, report, show,
+    People, REFUSED, complain, end, merged_parts, print_merged_rows, read, report, show,
 };
 use program_rows::are_rows;
 use std::io;
@@ -18,17 +17,17 @@ const NO_JSON: &str = "--json: rows are put together as CSV alone";
 const NO_MEAN: &str = "--mean: a walk has outcomes, and no means";
 
 /// Puts the rows of the files together, or after a litmus test the parts of its walk. Returns the exit status.
-pub(super) fn merge<R>(rt: &R, people: People, words: &[String], json: bool, mean: bool) -> u8
+pub(super) fn merge<R>(rt: &R, people: People, words: &[String], args: MergeArgs) -> u8
 where
     R: Files + Input + AllocGlobal + Print + Eprint,
 {
     match read_files(rt.alloc(), words) {
-        Ok(files) => merge_files(rt, people, files.as_slice(), json, mean),
+        Ok(files) => merge_files(rt, people, files.as_slice(), args),
         Err(error) => show(rt, people, &error),
     }
 }
 
-fn merge_files<R>(rt: &R, people: People, files: &[&str], json: bool, mean: bool) -> u8
+fn merge_files<R>(rt: &R, people: People, files: &[&str], args: MergeArgs) -> u8
 where
     R: Files + Input + AllocGlobal + Print + Eprint,
 {
@@ -39,9 +38,9 @@ where
         Ok(text) => text,
         Err(error) => return report(rt, people, &error, format_args!("cannot read {file}")),
     };
-    match (are_rows(text.as_slice()), json, mean) {
-        (true, false, _) => print_merged_rows(rt, people, files, text.as_slice(), mean),
-        (false, _, false) => merge_parts(rt, people, text.as_slice(), parts, json),
+    match (are_rows(text.as_slice()), args.json, args.mean) {
+        (true, false, mean) => print_merged_rows(rt, people, files, text.as_slice(), mean),
+        (false, json, false) => merge_parts(rt, people, text.as_slice(), parts, json),
         (is_rows, _, _) => {
             complain(rt, people, if is_rows { NO_JSON } else { NO_MEAN });
             REFUSED

@@ -1,0 +1,132 @@
+//! What a subcommand does that reads one text, or none, and prints what it comes to.
+
+use litmus::{TextKind, hint};
+use litmus_text::TextFault;
+use lockup_front::{Painted, People, complain, read, report};
+use std::io;
+use std::io::{BufWriter, Write};
+use std::rt::Files;
+use std::sync::Wait;
+use std::thread::Threads;
+
+/// A subcommand with its arguments.
+pub(super) trait Subcommand {
+    /// Returns the file of the text, if there is one.
+    fn file(&self) -> Option<&str>;
+
+    /// Returns the kind of text whose errors are explained, if they are.
+    fn explained(&self) -> Option<TextKind> {
+        None
+    }
+
+    /// Prints what the text comes to, including the answers before a fault, and returns the exit status.
+    fn print<R, W>(
+        &self,
+        rt: &R,
+        people: People,
+        input: &[u8],
+        out: &mut W,
+    ) -> Result<u8, TextFault>
+    where
+        R: Files + Input + AllocGlobal + Eprint + Threads + Wait + Sync,
+        W: Write;
+
+    /// Reports of a run that ended with this status what its output doesn't say.
+    fn remark<R>(&self, _rt: &R, _people: People, _input: &[u8], _status: u8)
+    where
+        R: AllocGlobal + Eprint,
+    {
+    }
+}
+
+/// Reads the text that a subcommand names, and prints what it comes to. Returns the exit status.
+pub(super) fn run<R, S>(rt: &R, people: People, asked: &S) -> u8
+where
+    R: Files + Input + AllocGlobal + Print + Eprint + Threads + Wait + Sync,
+    S: Subcommand,
+{
+    let Some(file) = asked.file() else {
+        return run_text(rt, people, asked, &[]);
+    };
+    match read(rt, file) {
+        Ok(input) => run_text(rt, people, asked, input.as_slice()),
+        Err(error) => match why_unread(asked.explained(), &error) {
+            Some(why) => {
+                report(
+                    rt,
+                    people,
+                    &error,
+                    format_args!("cannot read {file}   {why}"),
+                )
+            }
+            None => report(rt, people, &error, format_args!("cannot read {file}")),
+        },
+    }
+}
+
+fn run_text<R, S>(rt: &R, people: People, asked: &S, input: &[u8]) -> u8
+where
+    R: Files + Input + AllocGlobal + Print + Eprint + Threads + Wait + Sync,
+    S: Subcommand,
+{
+    match print(rt, people, asked, input) {
+        Ok(status) => {
+            asked.remark(rt, people, input, status);
+            status
+        }
+        Err(fault) => {
+            complain_of(rt, people, asked.explained(), input, fault);
+            fault.status()
+        }
+    }
+}
+
+fn print<R, S>(rt: &R, people: People, asked: &S, input: &[u8]) -> Result<u8, TextFault>
+where
+    R: Files + Input + AllocGlobal + Print + Eprint + Threads + Wait + Sync,
+    S: Subcommand,
+{
+    let Ok(out) = BufWriter::new(rt.alloc(), io::writer(rt)) else {
+        return Err(TextFault::NoMemory);
+    };
+    // Answers with their reasons show what moved and what is blocked, which have colors.
+    let is_colored = people.color_answers && matches!(asked.explained(), Some(TextKind::Script));
+    let mut out = Painted::new(out, is_colored);
+    let printed = asked.print(rt, people, input, &mut out);
+    match out.flush() {
+        Ok(()) => printed,
+        Err(_) => Err(TextFault::CannotWrite),
+    }
+}
+
+/// Returns why a file can't be read, where errors are explained.
+fn why_unread(explained: Option<TextKind>, error: &io::Error) -> Option<&'static str> {
+    explained?;
+    match error.kind() {
+        io::ErrorKind::NotFound => Some("there is no such file"),
+        io::ErrorKind::IsADirectory => Some("it is a folder"),
+        io::ErrorKind::PermissionDenied => Some("permission is denied"),
+        io::ErrorKind::NotADirectory => Some("a part of its path is no folder"),
+        _ => None,
+    }
+}
+
+/// Complains of a fault, and where errors are explained reports what its reader may want to know.
+fn complain_of<R>(
+    rt: &R,
+    people: People,
+    explained: Option<TextKind>,
+    input: &[u8],
+    fault: TextFault,
+)
+where
+    R: AllocGlobal + Eprint,
+{
+    let Some(kind) = explained else {
+        return complain(rt, people, fault);
+    };
+    match hint(rt.alloc(), kind, input, fault) {
+        Some(hint) => complain(rt, people, format_args!("{fault}   {hint}")),
+        None => complain(rt, people, fault),
+    }
+}

@@ -8,31 +8,18 @@ use Rattle.cache_table.specs.declared.row.CacheSends.TheVariants as cache_sends
 use Rattle.cache_table.specs.declared.row.Row.{Row}
 use Rattle.cache_table.specs.declared.row.Row.TheVariants as rows
 use Rattle.protocol_tables.specs.Cache.{before_the_table, text_of_cell, text_of_row}
-use Rattle.protocol_tables.specs.CacheRows.{sample_of}
+use Rattle.protocol_tables.specs.CacheRows.{name_of_case, sample_of}
 use Rattle.protocol_tables.specs.declared.cache_rows.CacheCase.{CacheCase}
 use Rattle.protocol_tables.specs.declared.cache_rows.CacheCase.TheVariants as cases
-use Rattle.protocol_tables.specs.declared.cache_rows.Counted.TheVariants as counted
 use Rattle.changed_tables.specs.Cache.{is_at}
 use Rattle.changed_tables.specs.Layout.{Cell}
 use Rattle.changed_tables.specs.declared.tables.CacheChange.{CacheChange}
 
--- the title of a column
+-- the title of a column: the case's name, and of what comes with the exclusive state alone that as well
 abbrev pub title_of : CacheCase → List ℕ
-title_of cases.Load = codes "load"
-title_of cases.Write = codes "write"
-title_of cases.Eviction = codes "eviction"
-title_of cases.FwdGetS = codes "Fwd-GetS"
-title_of cases.FwdGetM = codes "Fwd-GetM"
-title_of cases.Inv = codes "Inv"
-title_of cases.PutAck = codes "Put-Ack"
-title_of (cases.Data counted.Equal) = codes "Data, k = n"
-title_of (cases.Data counted.Less) = codes "Data, k < n"
-title_of (cases.Data counted.More) = codes "Data, k > n"
-title_of (cases.InvAck counted.Equal) = codes "Inv-Ack, k + 1 = n"
-title_of (cases.InvAck counted.Less) = codes "Inv-Ack, k + 1 < n"
-title_of (cases.InvAck counted.More) = codes "Inv-Ack, k + 1 > n"
 title_of (cases.DataE true) = codes "Data-E (exclusive on), loads alone"
 title_of (cases.DataE false) = codes "Data-E (exclusive on), a write too"
+title_of case = name_of_case case
 
 -- what our table says at a cell, and what a row says there
 abbrev pub our_text : Bool → CopyState → CacheCase → List ℕ

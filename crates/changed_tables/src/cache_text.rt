@@ -9,28 +9,16 @@ ghost use Rattle.changed_tables.specs.CacheText.{our_text, row_text, title_of};
 
 use super::word::is_joined;
 use cache_table::{CacheEvent, CopyState, Row};
-use protocol_tables::{CacheCase, Counted, cache_rule, sample_of, text_of_effect};
+use protocol_tables::{CacheCase, cache_rule, sample_of, text_of_effect};
 
 /// The title of a column.
 pub(crate) const fn title_of(case: CacheCase) -> &'static str
     ensures { result.now ≡ title_of case }
 {
     match case {
-        CacheCase::Load => "load",
-        CacheCase::Write => "write",
-        CacheCase::Eviction => "eviction",
-        CacheCase::FwdGetS => "Fwd-GetS",
-        CacheCase::FwdGetM => "Fwd-GetM",
-        CacheCase::Inv => "Inv",
-        CacheCase::PutAck => "Put-Ack",
-        CacheCase::Data(Counted::Equal) => "Data, k = n",
-        CacheCase::Data(Counted::Less) => "Data, k < n",
-        CacheCase::Data(Counted::More) => "Data, k > n",
-        CacheCase::InvAck(Counted::Equal) => "Inv-Ack, k + 1 = n",
-        CacheCase::InvAck(Counted::Less) => "Inv-Ack, k + 1 < n",
-        CacheCase::InvAck(Counted::More) => "Inv-Ack, k + 1 > n",
         CacheCase::DataE { all_loads: true } => "Data-E (exclusive on), loads alone",
         CacheCase::DataE { all_loads: false } => "Data-E (exclusive on), a write too",
+        _ => case.name(),
     }
 }
 

@@ -18,6 +18,7 @@
 pub use cache_reader::read_cache_table;
 pub use directory_reader::read_directory_table;
 pub use fault::{CellFault, TableFault};
+pub use numbers::state_number;
 pub use tables::{CacheChange, DirectoryChange, Tables};
 
 mod cache_cell;

@@ -6,7 +6,8 @@ ghost use Rattle.changed_tables.specs.Numbers.{case_number, dir_case_number, ent
 use cache_table::CopyState;
 use protocol_tables::{CacheCase, Counted, DirCase, Entry, Sharing};
 
-pub(crate) const fn state_number(state: CopyState) -> u8
+/// Returns the number of a state of a copy.
+pub const fn state_number(state: CopyState) -> u8
     ensures { result ≡ state_number state }
 {
     match state {

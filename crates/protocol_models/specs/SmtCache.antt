@@ -8,32 +8,14 @@ use Rattle.cache_table.specs.declared.row.CacheSends.TheVariants as cache_sends
 use Rattle.cache_table.specs.declared.row.Row.{Row}
 use Rattle.cache_table.specs.declared.row.Row.TheVariants as rows
 use Rattle.protocol_tables.specs.Cache.{text_of_effect}
-use Rattle.protocol_tables.specs.CacheRows.{accesses, messages_of, rule_of, sample_of, states_of}
+use Rattle.protocol_tables.specs.CacheRows.{accesses, messages_of, name_of_case, rule_of, sample_of, states_of}
 use Rattle.protocol_tables.specs.declared.cache_rows.CacheCase.{CacheCase}
 use Rattle.protocol_tables.specs.declared.cache_rows.CacheCase.TheVariants as cases
 use Rattle.protocol_tables.specs.declared.cache_rows.Counted.TheVariants as counted
 
 -- ---- words
 
--- the event's name, as in the tables
-abbrev pub title_of : CacheCase → List ℕ
-title_of cases.Load = codes "load"
-title_of cases.Write = codes "write"
-title_of cases.Eviction = codes "eviction"
-title_of cases.FwdGetS = codes "Fwd-GetS"
-title_of cases.FwdGetM = codes "Fwd-GetM"
-title_of cases.Inv = codes "Inv"
-title_of cases.PutAck = codes "Put-Ack"
-title_of (cases.Data counted.Equal) = codes "Data, k = n"
-title_of (cases.Data counted.Less) = codes "Data, k < n"
-title_of (cases.Data counted.More) = codes "Data, k > n"
-title_of (cases.InvAck counted.Equal) = codes "Inv-Ack, k + 1 = n"
-title_of (cases.InvAck counted.Less) = codes "Inv-Ack, k + 1 < n"
-title_of (cases.InvAck counted.More) = codes "Inv-Ack, k + 1 > n"
-title_of (cases.DataE true) = codes "Data-E, loads alone"
-title_of (cases.DataE false) = codes "Data-E, a write too"
-
--- .. and in the queries
+-- the event's name in the queries
 abbrev pub event_name : CacheCase → List ℕ
 event_name cases.Load = codes "load"
 event_name cases.Write = codes "write"
@@ -66,7 +48,7 @@ sends_name cache_sends.DataToRequesterAndHome = codes "send-Data-and-home"
 
 -- a cell's name
 abbrev pub cell_name : CopyState → CacheCase → List ℕ
-cell_name state case = name_of state ++ codes ", " ++ title_of case
+cell_name state case = name_of state ++ codes ", " ++ name_of_case case
 
 -- an event at a state, and what a row sends with the next state, in the queries
 abbrev pub at_of : CopyState → CacheCase → List ℕ

@@ -1,5 +1,5 @@
 -- Cases of a private cache's events: what of their numbers makes a difference to the table.
-use Rattle.std.specs.Prelude.{◌≡◌, ◌<◌, ℕ, ◌+◌, Bool, true, false, List, [], ◌∷◌, if◌then◌else◌}
+use Rattle.std.specs.Prelude.{◌≡◌, ◌<◌, ℕ, ◌+◌, Bool, true, false, List, [], ◌∷◌, codes, if◌then◌else◌}
 use Rattle.cache_table.specs.Row.{row_of}
 use Rattle.cache_table.specs.declared.state.CopyState.{CopyState}
 use Rattle.cache_table.specs.declared.state.CopyState.TheVariants as copy_states
@@ -33,6 +33,24 @@ sample_of (cases.InvAck counted.Equal) = cache_events.InvAck 1 0
 sample_of (cases.InvAck counted.Less) = cache_events.InvAck 2 0
 sample_of (cases.InvAck counted.More) = cache_events.InvAck 0 0
 sample_of (cases.DataE all_loads) = cache_events.DataE all_loads
+
+-- the name of a case
+abbrev pub name_of_case : CacheCase → List ℕ
+name_of_case cases.Load = codes "load"
+name_of_case cases.Write = codes "write"
+name_of_case cases.Eviction = codes "eviction"
+name_of_case cases.FwdGetS = codes "Fwd-GetS"
+name_of_case cases.FwdGetM = codes "Fwd-GetM"
+name_of_case cases.Inv = codes "Inv"
+name_of_case cases.PutAck = codes "Put-Ack"
+name_of_case (cases.Data counted.Equal) = codes "Data, k = n"
+name_of_case (cases.Data counted.Less) = codes "Data, k < n"
+name_of_case (cases.Data counted.More) = codes "Data, k > n"
+name_of_case (cases.InvAck counted.Equal) = codes "Inv-Ack, k + 1 = n"
+name_of_case (cases.InvAck counted.Less) = codes "Inv-Ack, k + 1 < n"
+name_of_case (cases.InvAck counted.More) = codes "Inv-Ack, k + 1 > n"
+name_of_case (cases.DataE true) = codes "Data-E, loads alone"
+name_of_case (cases.DataE false) = codes "Data-E, a write too"
 
 -- the event is of the case
 abbrev pub IsCase : CacheCase → CacheEvent → Type 0

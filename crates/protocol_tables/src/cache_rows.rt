@@ -36,6 +36,34 @@ pub enum CacheCase {
     DataE { all_loads: bool },
 }
 
+impl CacheCase {
+    ghost use Rattle.std.specs.Prelude.{◌≡◌};
+    ghost use Rattle.protocol_tables.specs.CacheRows.{name_of_case};
+
+    /// Returns its name.
+    pub const fn name(self) -> &'static str
+        ensures { result.now ≡ name_of_case self }
+    {
+        match self {
+            CacheCase::Load => "load",
+            CacheCase::Write => "write",
+            CacheCase::Eviction => "eviction",
+            CacheCase::FwdGetS => "Fwd-GetS",
+            CacheCase::FwdGetM => "Fwd-GetM",
+            CacheCase::Inv => "Inv",
+            CacheCase::PutAck => "Put-Ack",
+            CacheCase::Data(Counted::Equal) => "Data, k = n",
+            CacheCase::Data(Counted::Less) => "Data, k < n",
+            CacheCase::Data(Counted::More) => "Data, k > n",
+            CacheCase::InvAck(Counted::Equal) => "Inv-Ack, k + 1 = n",
+            CacheCase::InvAck(Counted::Less) => "Inv-Ack, k + 1 < n",
+            CacheCase::InvAck(Counted::More) => "Inv-Ack, k + 1 > n",
+            CacheCase::DataE { all_loads: true } => "Data-E, loads alone",
+            CacheCase::DataE { all_loads: false } => "Data-E, a write too",
+        }
+    }
+}
+
 /// The states of a copy. To the last, E, none comes without the exclusive state.
 static STATES: [CopyState; 12] = [
     CopyState::I,

@@ -7,8 +7,7 @@ use super::search::Tried;
 use super::step::{Met, Step};
 use super::telling::Told;
 use super::words::{
-    name_of_case, name_of_promise, write_cores, write_directory_row, write_entry, write_event,
-    write_row,
+    name_of_promise, write_cores, write_directory_row, write_entry, write_event, write_row,
 };
 use address_map::CoreId;
 use changed_tables::Tables;
@@ -135,7 +134,7 @@ fn write_met<W: Write>(line: &Line, met: &Met, out: &mut W) -> fmt::Result {
             row,
             ..
         } => {
-            let event = name_of_case(*case);
+            let event = case.name();
             let state = *state;
             write!(
                 out,

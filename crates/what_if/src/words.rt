@@ -5,7 +5,7 @@ use super::promise::Promise;
 use address_map::CoreSet;
 use cache_table::{CopyState, Row};
 use directory_table::{DirEvent, DirRow, DirSends, DirState};
-use protocol_tables::{CacheCase, Counted, sample_of, text_of_effect, text_of_home};
+use protocol_tables::{CacheCase, sample_of, text_of_effect, text_of_home};
 use std::fmt;
 use std::fmt::Write;
 
@@ -29,27 +29,6 @@ pub const fn name_of_promise(promise: Promise) -> &'static str {
         Promise::WritesNewest => "a write is to the newest block",
         Promise::CountInRange => "there are no more acknowledgements than cores",
         Promise::Ends => "each miss and each eviction ends, once no core asks any more",
-    }
-}
-
-/// Returns the name of the event of a cell of a private cache.
-pub(crate) const fn name_of_case(case: CacheCase) -> &'static str {
-    match case {
-        CacheCase::Load => "load",
-        CacheCase::Write => "write",
-        CacheCase::Eviction => "eviction",
-        CacheCase::FwdGetS => "Fwd-GetS",
-        CacheCase::FwdGetM => "Fwd-GetM",
-        CacheCase::Inv => "Inv",
-        CacheCase::PutAck => "Put-Ack",
-        CacheCase::Data(Counted::Equal) => "Data, k = n",
-        CacheCase::Data(Counted::Less) => "Data, k < n",
-        CacheCase::Data(Counted::More) => "Data, k > n",
-        CacheCase::InvAck(Counted::Equal) => "Inv-Ack, k + 1 = n",
-        CacheCase::InvAck(Counted::Less) => "Inv-Ack, k + 1 < n",
-        CacheCase::InvAck(Counted::More) => "Inv-Ack, k + 1 > n",
-        CacheCase::DataE { all_loads: true } => "Data-E, loads alone",
-        CacheCase::DataE { all_loads: false } => "Data-E, a write too",
     }
 }
 
@@ -95,7 +74,7 @@ pub(crate) fn write_cache_cell<W: Write>(
     case: CacheCase,
     out: &mut W,
 ) -> fmt::Result {
-    let event = name_of_case(case);
+    let event = case.name();
     write!(out, "cache {state}, {event}")
 }
 

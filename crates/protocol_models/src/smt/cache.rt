@@ -18,28 +18,12 @@ struct Title(CacheCase);
 
 impl fmt::Display for Title {
     ghost use Rattle.std.specs.Prelude.{Some};
-    ghost use Rattle.protocol_models.specs.SmtCache.{title_of};
+    ghost use Rattle.protocol_tables.specs.CacheRows.{name_of_case};
 
-    ghost output = { λ title. Some (title_of title.0) };
+    ghost output = { λ title. Some (name_of_case title.0) };
 
     fn fmt<W: fmt::Write>(&self, f: &mut fmt::Formatter<W>) -> fmt::Result {
-        f.write_str(match self.0 {
-            CacheCase::Load => "load",
-            CacheCase::Write => "write",
-            CacheCase::Eviction => "eviction",
-            CacheCase::FwdGetS => "Fwd-GetS",
-            CacheCase::FwdGetM => "Fwd-GetM",
-            CacheCase::Inv => "Inv",
-            CacheCase::PutAck => "Put-Ack",
-            CacheCase::Data(Counted::Equal) => "Data, k = n",
-            CacheCase::Data(Counted::Less) => "Data, k < n",
-            CacheCase::Data(Counted::More) => "Data, k > n",
-            CacheCase::InvAck(Counted::Equal) => "Inv-Ack, k + 1 = n",
-            CacheCase::InvAck(Counted::Less) => "Inv-Ack, k + 1 < n",
-            CacheCase::InvAck(Counted::More) => "Inv-Ack, k + 1 > n",
-            CacheCase::DataE { all_loads: true } => "Data-E, loads alone",
-            CacheCase::DataE { all_loads: false } => "Data-E, a write too",
-        })
+        f.write_str(self.0.name())
     }
 }
 

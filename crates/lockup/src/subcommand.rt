@@ -35,8 +35,7 @@ pub(super) trait Subcommand {
     fn remark<R>(&self, _rt: &R, _people: People, _input: &[u8], _status: u8)
     where
         R: AllocGlobal + Eprint,
-    {
-    }
+    {}
 }
 
 /// Reads the text that a subcommand names, and prints what it comes to. Returns the exit status.

@@ -1,21 +1,16 @@
 -- What a subcommand prints in the form that is asked for, and where its output is cut.
-use Rattle.std.specs.Prelude.{ℕ, Bool, true, false, List, [], Option, Some, None, ⊤}
+use Rattle.std.specs.Prelude.{ℕ, Bool, true, false, List, [], Option, ⊤, if◌then◌else◌}
 use Rattle.std.specs.Str.Lines.{lines}
 use Rattle.std.specs.Io.KnownBytes.{Appends}
 use Rattle.history_text.specs.declared.extent.Extent.{Extent}
 use Rattle.history_text.specs.declared.extent.Extent.TheVariants as extents
 use Rattle.litmus.specs.Table.{text_of_table, values_of}
-use Rattle.litmus.specs.Tests.{IsOfTest}
 use Rattle.litmus_command_line.specs.declared.args.TableArgs.{TableArgs}
 use Rattle.litmus_command_line.specs.declared.form.ScriptForm.{ScriptForm}
 use Rattle.litmus_command_line.specs.declared.form.ScriptForm.TheVariants as script_forms
 use Rattle.litmus_script.specs.Script.{Echoed, IsRun, IsRunUpTo}
-use Rattle.litmus_test.specs.declared.outcomes.form.OutcomeForm.{OutcomeForm}
-use Rattle.litmus_test.specs.declared.outcomes.form.OutcomeForm.TheVariants as outcome_forms
 use Rattle.litmus_text.specs.Statement.{statements_from}
 use Rattle.litmus_text.specs.declared.fault.TextFault.{TextFault}
-use Rattle.litmus_threads.specs.Run.{IsEndOf}
-use Rattle.litmus_threads.specs.Trace.{IsTraceEnd}
 use Rattle.murphi_trace.specs.Script.{IsTraceFault, script_of}
 use Rattle.script_coverage.specs.Coverage.{IsNotCovered}
 use Rattle.script_explained.specs.Beside.{IsBeside, Told}
@@ -56,17 +51,6 @@ PrintsVerdict false false text before after status = IsChecked text (text_of_ver
 abbrev pub text_of : TableArgs → List ℕ
 text_of args = if args.json then values_of args.table args.exclusive else text_of_table args.table args.exclusive
 
--- how outcomes are printed
-abbrev pub form_of : (json : Bool) → OutcomeForm
-form_of json = if json then outcome_forms.Json else outcome_forms.Table
-
 -- which words are judged together
 abbrev pub extent_of : (line : Bool) → Extent
 extent_of line = if line then extents.Line else extents.Word
-
--- a litmus test was run over threads, and all its rounds are printed with this status, or what one round performed
-abbrev pub PrintsLitmus : (trace : Option ℕ) (json : Bool) → List ℕ → Option (List ℕ) → Option (List ℕ) → ℕ → Type 0
-PrintsLitmus None json text before after status =
-    IsOfTest text (λ test. IsEndOf test (form_of json) (λ printed. Appends before after printed) status)
-PrintsLitmus (Some round) json text before after status =
-    IsOfTest text (λ test. IsTraceEnd test round (λ printed. Appends before after printed) status)

@@ -1,8 +1,5 @@
 //! What runs of rounds of a litmus test share.
 
-ghost use Rattle.std.specs.Prelude.{◌≡◌};
-ghost use Rattle.lockup.specs.Printed.{form_of};
-
 use litmus::{OutcomeForm, processors};
 use std::thread::Threads;
 
@@ -19,9 +16,7 @@ pub(super) fn jobs_of<R: Threads>(rt: &R, jobs: Option<u64>) -> usize {
 }
 
 /// Returns how the outcomes of a litmus test are printed.
-pub(super) const fn outcome_form(json: bool) -> OutcomeForm
-    ensures { result ≡ form_of json }
-{
+pub(super) const fn outcome_form(json: bool) -> OutcomeForm {
     if json {
         OutcomeForm::Json
     } else {

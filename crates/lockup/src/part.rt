@@ -37,16 +37,19 @@ impl Subcommand for PartArgs<'_> {
             Ok(known) => known,
             Err(status) => return Ok(status),
         };
+        let (rounds, seed, limit) = (self.rounds, self.seed, self.limit);
+        let (jobs, known) = (jobs_of(rt, self.jobs), known.as_slice());
+        let shown = &mut Shown::new(rt, people, Counted::Rounds);
         let printed = print_parts(
             rt.alloc(),
             rt,
-            jobs_of(rt, self.jobs),
+            jobs,
             input,
-            known.as_slice(),
-            self.rounds,
-            self.seed,
-            self.limit,
-            &mut Shown::new(rt, people, Counted::Rounds),
+            known,
+            rounds,
+            seed,
+            limit,
+            shown,
             out,
         );
         if let (Some(file), Ok(REFUSED)) = (self.resume, printed) {

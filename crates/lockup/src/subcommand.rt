@@ -1,5 +1,7 @@
 //! What a subcommand does that reads one text, or none, and prints what it comes to.
 
+ghost use denote.Param.Send.{IsSync};
+
 use litmus::{TextKind, hint};
 use litmus_text::TextFault;
 use lockup_front::{Painted, People, complain, read, report};
@@ -29,7 +31,9 @@ pub(super) trait Subcommand {
     ) -> Result<u8, TextFault>
     where
         R: Files + Input + AllocGlobal + Eprint + Threads + Wait + Sync,
-        W: Write;
+        W: Write,
+        // In a trait the bound `Sync` says nothing without it.
+        requires { IsSync R.row };
 
     /// Reports of a run that ended with this status what its output doesn't say.
     fn remark<R>(&self, _rt: &R, _people: People, _input: &[u8], _status: u8)

@@ -1,9 +1,5 @@
 //! `litmus`: a litmus test over threads.
 
-ghost use Rattle.std.specs.Prelude.{IfErr, IfOk};
-ghost use Rattle.litmus.specs.Tests.{IsTestNotRun};
-ghost use Rattle.lockup.specs.Printed.{PrintsLitmus};
-
 use super::outcomes::outcome_form;
 use super::subcommand::Subcommand;
 use litmus::{LitmusArgs, TextKind, run_litmus_as, trace_litmus};
@@ -33,9 +29,6 @@ impl Subcommand for LitmusArgs<'_> {
     where
         R: Files + Input + AllocGlobal + Eprint + Threads + Wait + Sync,
         W: Write,
-        ensures printed { IfOk result (PrintsLitmus self.now.trace self.now.json input.now
-            (W.contents out.old) (W.contents out.new)) }
-        ensures fault { IfErr result (IsTestNotRun input.now) }
     {
         let (seed, limit) = (self.seed, self.limit);
         match self.trace {

@@ -1,4 +1,4 @@
-//! What each subcommand is given.
+//! What each subcommand is given. With `explain`, errors are explained.
 
 use super::export::ModelCores;
 use super::form::{ScheduleForm, ScriptForm, WhatIfForm};
@@ -32,8 +32,7 @@ pub struct PageArgs<'a> {
     pub guess: bool,
 }
 
-/// A script that is tested against its expected answers. With `first`, only the first difference is printed. Here and
-/// below, with `explain` errors are explained.
+/// A script that is tested against its expected answers. With `first`, only the first difference is printed.
 #[derive(Clone, Copy, Debug, PartialEq, Eq)]
 pub struct TestArgs<'a> {
     pub file: &'a str,
@@ -121,8 +120,7 @@ pub struct MergeArgs {
     pub mean: bool,
 }
 
-/// A trace that is judged. With `json`, the verdict is printed as a JSON value. With `explain`, it is explained, as are
-/// errors.
+/// A trace that is checked. With `json`, the verdict is printed as a JSON value. With `explain`, it is explained, too.
 #[derive(Clone, Copy, Debug, PartialEq, Eq)]
 pub struct CheckArgs<'a> {
     pub file: &'a str,
@@ -130,8 +128,8 @@ pub struct CheckArgs<'a> {
     pub explain: bool,
 }
 
-/// A trace that is judged, in which the order of several cores' entries isn't known: each word by itself, or with `line`
-/// the words of each line. At most `limit` steps are taken to try orders of one. With `witness`, the order of the one
+/// A history or a trace that is judged, where the order of several cores' entries isn't known: each word by itself, or
+/// with `line` the words of each line. At most `limit` steps are taken to try orders of one. With `witness`, the order of the one
 /// with this number is printed, and with `json`, the verdict as a JSON value.
 #[derive(Clone, Copy, Debug, PartialEq, Eq)]
 pub struct JudgeArgs<'a> {

@@ -50,9 +50,9 @@ pub enum CommandLine<'a> {
     Generate(GenerateArgs<'a>),
     /// Test a script against its expected answers.
     Test(TestArgs<'a>),
-    /// Judge a trace.
+    /// Check a trace.
     Check(CheckArgs<'a>),
-    /// Judge a trace in which the order of several cores' entries isn't known.
+    /// Judge a history or a trace, where the order of several cores' entries isn't known.
     Judge(JudgeArgs<'a>),
     /// Print a table of the protocol.
     Table(TableArgs),

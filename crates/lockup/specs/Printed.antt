@@ -1,4 +1,4 @@
--- What a subcommand prints in the form that is asked for, and where its output is cut.
+-- What a subcommand prints in the form that is asked for.
 use Rattle.std.specs.Prelude.{ℕ, Bool, true, false, List, [], Option, ⊤, if◌then◌else◌}
 use Rattle.std.specs.Str.Lines.{lines}
 use Rattle.std.specs.Io.KnownBytes.{Appends}
@@ -29,7 +29,7 @@ PrintsScript script_forms.Json text before after = IsRun Listed (statements_from
 PrintsScript script_forms.Coverage text before after = ⊤
 PrintsScript script_forms.FromMurphi text before after = Appends before after (script_of text)
 
--- .. up to this fault
+-- .. or not whole, with this fault: of answers, and of a trace as a script, what was printed before it is said, too
 abbrev pub PrintsScriptUpTo : ScriptForm → List ℕ → Option (List ℕ) → Option (List ℕ) → TextFault → Type 0
 PrintsScriptUpTo (script_forms.Answers echo explain) text before after fault =
     IsRunUpTo (Echoed echo (Told explain)) (statements_from 0 (lines text)) before after fault

@@ -11,9 +11,10 @@ use std::io;
 use std::io::{BufWriter, Write};
 use std::rt::Files;
 
-/// The error where rows are to be put together as parts, or parts as rows.
+/// The error for rows with `--json`.
 const NO_JSON: &str = "--json: rows are put together as CSV alone";
 
+/// The error for parts with `--mean`.
 const NO_MEAN: &str = "--mean: a walk has outcomes, and no means";
 
 /// Puts the rows of the files together, or after a litmus test the parts of its walk. Returns the exit status.
@@ -31,6 +32,7 @@ fn merge_files<R>(rt: &R, people: People, files: &[&str], args: MergeArgs) -> u8
 where
     R: Files + Input + AllocGlobal + Print + Eprint,
 {
+    // The command requires a file.
     let Some((file, parts)) = files.split_first() else {
         return REFUSED;
     };

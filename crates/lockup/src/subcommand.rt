@@ -11,17 +11,18 @@ use std::rt::Files;
 use std::sync::Wait;
 use std::thread::Threads;
 
-/// A subcommand with its arguments.
+/// A subcommand, or a form of one, with its arguments.
 pub(super) trait Subcommand {
     /// Returns the file of the text, if there is one.
     fn file(&self) -> Option<&str>;
 
-    /// Returns the kind of text whose errors are explained, if they are.
+    /// Returns the kind of text whose errors are explained, if they are. The answers to a script are colored then.
     fn explained(&self) -> Option<TextKind> {
         None
     }
 
-    /// Prints what the text comes to, including the answers before a fault, and returns the exit status.
+    /// Prints what the text comes to, including the answers before a fault, and returns the exit status: `REFUSED` where
+    /// `remark` is to say why. The text is empty if there is no file.
     fn print<R, W>(
         &self,
         rt: &R,
@@ -32,7 +33,7 @@ pub(super) trait Subcommand {
     where
         R: Files + Input + AllocGlobal + Eprint + Threads + Wait + Sync,
         W: Write,
-        // In a trait the bound `Sync` says nothing without it.
+        // In a trait nothing is known of the bound `Sync` without it, nor in an impl with clauses of its own.
         requires { IsSync R.row };
 
     /// Reports of a run that ended with this status what its output doesn't say.

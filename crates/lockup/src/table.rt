@@ -1,12 +1,11 @@
-//! `table`, and `export smt`: the protocol, of which no file is read.
+//! `table`: a table of the protocol, for which no file is read.
 
 ghost use Rattle.std.specs.Prelude.{◌≡◌, IfErr, IfOk, OnOk};
 ghost use Rattle.std.specs.Io.KnownBytes.{Appends};
 ghost use Rattle.lockup.specs.Printed.{text_of};
-ghost use Rattle.protocol_models.specs.Queries.{queries_of};
 
 use super::subcommand::Subcommand;
-use litmus::{QueriesArgs, TableArgs, run_queries, run_table, run_table_cells};
+use litmus::{TableArgs, run_table, run_table_cells};
 use litmus_text::TextFault;
 use lockup_front::People;
 use std::io::Write;
@@ -38,29 +37,5 @@ impl Subcommand for TableArgs {
         } else {
             run_table(self.table, self.exclusive, out)
         }
-    }
-}
-
-impl Subcommand for QueriesArgs {
-    fn file(&self) -> Option<&str> {
-        None
-    }
-
-    fn print<R, W>(
-        &self,
-        _rt: &R,
-        _people: People,
-        _input: &[u8],
-        out: &mut W,
-    ) -> Result<u8, TextFault>
-    where
-        R: Files + Input + AllocGlobal + Eprint + Threads + Wait + Sync,
-        W: Write,
-        ensures status { IfOk result (λ status. status ≡ 0) }
-        ensures printed { OnOk result
-            (Appends (W.contents out.old) (W.contents out.new) (queries_of self.now.exclusive)) }
-        ensures fault { IfErr result (λ fault. fault ≡ TextFault.CannotWrite) }
-    {
-        run_queries(self.exclusive, out)
     }
 }

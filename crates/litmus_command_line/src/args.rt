@@ -129,8 +129,8 @@ pub struct CheckArgs<'a> {
 }
 
 /// A history or a trace that is judged, where the order of several cores' entries isn't known: each word by itself, or
-/// with `line` the words of each line. At most `limit` steps are taken to try orders of one. With `witness`, the order of the one
-/// with this number is printed, and with `json`, the verdict as a JSON value.
+/// with `line` the words of each line. At most `limit` steps are taken to try orders of one. With `witness`, the order of
+/// the one with this number is printed, and with `json`, the verdict as a JSON value.
 #[derive(Clone, Copy, Debug, PartialEq, Eq)]
 pub struct JudgeArgs<'a> {
     pub file: &'a str,

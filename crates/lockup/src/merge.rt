@@ -4,7 +4,7 @@ use super::outcomes::outcome_form;
 use litmus::{MergeArgs, Merged, print_merged, read_files};
 use litmus_text::TextFault;
 use lockup_front::{
-    People, REFUSED, complain, end, merged_parts, print_merged_rows, read, report, show,
+    People, REFUSED, complain, end, merged_parts, print_merged_rows, show, text_of,
 };
 use program_rows::are_rows;
 use std::io;
@@ -36,9 +36,9 @@ where
     let Some((file, parts)) = files.split_first() else {
         return REFUSED;
     };
-    let text = match read(rt, file) {
+    let text = match text_of(rt, people, file) {
         Ok(text) => text,
-        Err(error) => return report(rt, people, &error, format_args!("cannot read {file}")),
+        Err(status) => return status,
     };
     match (are_rows(text.as_slice()), args.json, args.mean) {
         (true, false, mean) => print_merged_rows(rt, people, files, text.as_slice(), mean),

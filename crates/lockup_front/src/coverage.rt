@@ -1,7 +1,7 @@
 //! The sum of what runs of scripts counted.
 
-use super::files::read;
-use super::people::{People, REFUSED, complain, end, report, show};
+use super::files::text_of;
+use super::people::{People, REFUSED, complain, end, show};
 use litmus_command_line::read_files;
 use litmus_text::TextFault;
 use script_coverage::{Coverage, print_coverage};
@@ -49,15 +49,13 @@ fn add_file<R>(rt: &R, people: People, file: &str, coverage: &mut Coverage) -> R
 where
     R: Files + Input + AllocGlobal + Eprint,
 {
-    match read(rt, file) {
-        Ok(text) => match coverage.read(text.as_slice()) {
-            Ok(()) => Ok(()),
-            Err(unread) => {
-                complain(rt, people, format_args!("{file}: {unread}"));
-                Err(REFUSED)
-            }
-        },
-        Err(error) => Err(report(rt, people, &error, format_args!("cannot read {file}"))),
+    let text = text_of(rt, people, file)?;
+    match coverage.read(text.as_slice()) {
+        Ok(()) => Ok(()),
+        Err(unread) => {
+            complain(rt, people, format_args!("{file}: {unread}"));
+            Err(REFUSED)
+        }
     }
 }
 

@@ -1,6 +1,6 @@
 //! Files, and standard input.
 
-use super::people::{People, complain};
+use super::people::{People, complain, report};
 use std::fmt::Display;
 use std::io::Read;
 use std::rt::Files;
@@ -17,6 +17,17 @@ pub fn read<R: Files + Input + AllocGlobal>(rt: &R, file: &str) -> io::Result<Ve
     let mut input = Vec::new(rt.alloc());
     rt.reader().read_to_end(&mut input)?;
     Ok(input)
+}
+
+/// Reads a file. At Err, the error was reported, and this is the exit status.
+pub fn text_of<R>(rt: &R, people: People, file: &str) -> Result<Vec<u8>, u8>
+where
+    R: Files + Input + AllocGlobal + Eprint,
+{
+    match read(rt, file) {
+        Ok(text) => Ok(text),
+        Err(error) => Err(report(rt, people, &error, format_args!("cannot read {file}"))),
+    }
 }
 
 /// Returns the file of this number among those that the command line names.

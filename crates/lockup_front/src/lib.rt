@@ -2,7 +2,7 @@
 //!
 //! - [`People`] are who is at the other end: [`complain`], [`report`] and [`show`] report errors to them, [`end`] what
 //!   came of printing, [`Shown`] how far a long run is, and [`Painted`] colors their answers. [`read`] reads a file, or
-//!   standard input.
+//!   standard input, and [`text_of`] reports where that can't be done.
 //! - [`print_rows`], [`print_workload`], [`add_coverage`], [`answer_lines`] and [`print_what_breaks`] each do what a
 //!   subcommand asks for; [`read_tables`] reads tables with changed cells, [`known_parts`] those of a walk that goes on,
 //!   [`merged_parts`] puts parts together, and [`print_merged_rows`] rows.
@@ -10,7 +10,7 @@
 #![tactic(auto)]
 
 pub use coverage::add_coverage;
-pub use files::{STANDARD_INPUT, read};
+pub use files::{STANDARD_INPUT, read, text_of};
 pub use head::head_of;
 pub use merged_rows::print_merged_rows;
 pub use painted::Painted;

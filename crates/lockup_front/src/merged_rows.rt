@@ -1,7 +1,7 @@
 //! Rows of several files, put together.
 
-use super::files::{complain_of_files, named, read};
-use super::people::{People, report};
+use super::files::{complain_of_files, named, text_of};
+use super::people::People;
 use program_rows::{Rows, RowsFault};
 use std::io::{self, BufWriter, Write};
 use std::rt::Files;
@@ -30,12 +30,7 @@ where
     R: Files + Input + AllocGlobal + Eprint,
 {
     for (number, file) in files.iter().enumerate().skip(1) {
-        let text = match read(rt, file) {
-            Ok(text) => text,
-            Err(error) => {
-                return Err(report(rt, people, &error, format_args!("cannot read {file}")));
-            }
-        };
+        let text = text_of(rt, people, file)?;
         if let Err(fault) = rows.read(number, text.as_slice()) {
             return Err(refuse(rt, people, files, fault));
         }

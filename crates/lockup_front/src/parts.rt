@@ -1,7 +1,7 @@
 //! Parts of a walk, put together.
 
-use super::files::{complain_of_files, named, read};
-use super::people::{People, complain, report};
+use super::files::{complain_of_files, named, text_of};
+use super::people::{People, complain};
 use litmus_rounds::{Found, Merged, Part, PartFault, Parts, sum_of};
 use std::rt::Files;
 
@@ -36,10 +36,7 @@ where
     let Some(file) = file else {
         return Ok(Vec::new(rt.alloc()));
     };
-    let text = match read(rt, file) {
-        Ok(text) => text,
-        Err(error) => return Err(report(rt, people, &error, format_args!("cannot read {file}"))),
-    };
+    let text = text_of(rt, people, file)?;
     match read_parts_of(rt, test, text.as_slice()) {
         Ok(Found { parts, .. }) => Ok(parts),
         Err(fault) => Err(refuse(rt, people, &[file], fault)),
@@ -61,12 +58,7 @@ where
     R: Files + Input + AllocGlobal + Eprint,
 {
     for (number, file) in files.iter().enumerate() {
-        let text = match read(rt, file) {
-            Ok(text) => text,
-            Err(error) => {
-                return Err(report(rt, people, &error, format_args!("cannot read {file}")));
-            }
-        };
+        let text = text_of(rt, people, file)?;
         if let Err(fault) = parts.read(number, text.as_slice()) {
             return Err(refuse(rt, people, files, fault));
         }

@@ -1,7 +1,7 @@
 //! The rows of a sweep.
 
-use super::files::read;
-use super::people::{People, complain, fail, report, show};
+use super::files::text_of;
+use super::people::{People, complain, fail, show};
 use super::progress::{Counted, Shown};
 use super::unused::tell_unused_settings;
 use litmus_command_line::{SweepArgs, read_settings};
@@ -42,10 +42,9 @@ fn read_and_run<R>(rt: &R, people: People, sweep: &Sweep<'_>, args: SweepArgs<'_
 where
     R: Files + Input + AllocGlobal + Print + Eprint + Threads + Sync,
 {
-    let file = args.file;
-    match read(rt, file) {
+    match text_of(rt, people, args.file) {
         Ok(input) => run_input(rt, people, input.as_slice(), sweep, args),
-        Err(error) => report(rt, people, &error, format_args!("cannot read {file}")),
+        Err(status) => status,
     }
 }
 

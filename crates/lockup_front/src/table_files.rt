@@ -1,7 +1,7 @@
 //! Tables with changed cells, read from files.
 
-use super::files::read;
-use super::people::{People, REFUSED, complain, report};
+use super::files::text_of;
+use super::people::{People, REFUSED, complain};
 use changed_tables::{
     CacheChange, DirectoryChange, TableFault, Tables, read_cache_table, read_directory_table,
 };
@@ -62,16 +62,6 @@ where
     match read_directory_table(rt.alloc(), exclusive, &text) {
         Ok(changes) => Ok(changes),
         Err(fault) => Err(refuse(rt, people, file, &text, fault)),
-    }
-}
-
-fn text_of<R>(rt: &R, people: People, file: &str) -> Result<Vec<u8>, u8>
-where
-    R: Files + Input + AllocGlobal + Eprint,
-{
-    match read(rt, file) {
-        Ok(text) => Ok(text),
-        Err(error) => Err(report(rt, people, &error, format_args!("cannot read {file}"))),
     }
 }
 

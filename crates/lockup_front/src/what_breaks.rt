@@ -1,7 +1,7 @@
 //! What changed cells of the tables break on one line of memory.
 
-use super::files::read;
-use super::people::{People, REFUSED, complain, end, fail, report};
+use super::files::text_of;
+use super::people::{People, REFUSED, complain, end, fail};
 use super::table_files::read_tables;
 use super::what_drawn::diagram_of;
 use super::what_page::write_page;
@@ -86,10 +86,7 @@ fn replayed<R>(rt: &R, people: People, tables: &Tables, cores: u64, file: &str) 
 where
     R: Files + Input + AllocGlobal + Eprint,
 {
-    let text = match read(rt, file) {
-        Ok(text) => text,
-        Err(error) => return Err(report(rt, people, &error, format_args!("cannot read {file}"))),
-    };
+    let text = text_of(rt, people, file)?;
     let mut steps = match steps_of(rt, &text) {
         Ok(steps) if steps.is_empty() => return Err(fail(rt, people, LineFault::NotATrace.at(1))),
         Ok(steps) => steps,

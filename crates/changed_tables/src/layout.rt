@@ -10,7 +10,7 @@ use super::word::{pieces, trimmed};
 use std::alloc::{AllocError, Global};
 
 /// What a line is.
-#[derive(Clone, Copy, Debug, PartialEq, Eq)]
+#[derive(Clone, Copy)]
 pub(crate) enum Kind {
     /// It says nothing of a table.
     Aside,
@@ -20,7 +20,7 @@ pub(crate) enum Kind {
 
 /// A cell: its line and its place there, both counted from 1, the name of its line, the title of its column, and what it
 /// says.
-#[derive(Clone, Copy, Debug)]
+#[derive(Clone, Copy)]
 pub(crate) struct Written<'a> {
     pub line: usize,
     pub place: usize,

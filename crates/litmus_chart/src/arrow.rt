@@ -29,7 +29,7 @@ impl fmt::Display for Participant {
 }
 
 /// What became of a message at the front of its channel.
-#[derive(Clone, Copy, Debug, PartialEq, Eq)]
+#[derive(Clone, Copy)]
 pub enum Fate {
     Delivered,
     Blocked,

@@ -3,7 +3,7 @@ use address_map::{CoreId, CoreSet, LineAddr};
 use slice_core::{CacheSends, DirSends, Pick, Transition};
 
 /// The messages that a step sends for one line: at most one of each kind except the forwarded ones.
-#[derive(Clone, Copy, Debug)]
+#[derive(Clone, Copy)]
 pub struct Sends {
     pub data: Option<CoreId>,
     /// The cores that get an Inv, a forwarded request or a Put-Ack.

@@ -20,7 +20,7 @@ pub enum State {
 }
 
 /// A state, and from which row on it held.
-#[derive(Clone, Copy, Debug)]
+#[derive(Clone, Copy)]
 pub struct Span {
     pub who: Participant,
     pub state: State,
@@ -28,7 +28,7 @@ pub struct Span {
 }
 
 /// A message, the row in which it was sent, and the one in which it was taken: none while it is in flight.
-#[derive(Clone, Copy, Debug)]
+#[derive(Clone, Copy)]
 pub struct Flown {
     pub pick: Pick,
     pub from: Participant,
@@ -53,7 +53,7 @@ pub enum What {
 }
 
 /// .. in which row, and next to whose.
-#[derive(Clone, Copy, Debug)]
+#[derive(Clone, Copy)]
 pub struct Mark {
     pub who: Participant,
     pub row: usize,

@@ -20,7 +20,7 @@ pub struct Found {
 }
 
 /// What was read so far.
-#[derive(Debug, Drop)]
+#[derive(Drop)]
 struct Reader {
     alloc: Global,
     sum: u64,

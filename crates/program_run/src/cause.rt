@@ -1,7 +1,7 @@
 use address_map::{CoreId, LineAddr, WordAddr};
 
 /// Why an access missed.
-#[derive(Clone, Copy, Debug, PartialEq, Eq)]
+#[derive(Clone, Copy)]
 pub enum Cause {
     /// The core never had the line before.
     Cold,
@@ -16,7 +16,7 @@ pub enum Cause {
 }
 
 /// What happens to a core's copies and to words.
-#[derive(Clone, Copy, Debug, PartialEq, Eq)]
+#[derive(Clone, Copy)]
 pub enum Event {
     /// The core has the line from now on.
     Took(CoreId, LineAddr),
@@ -29,7 +29,7 @@ pub enum Event {
 }
 
 /// What last became of a core's copy of a line.
-#[derive(Clone, Copy, Debug, PartialEq, Eq)]
+#[derive(Clone, Copy)]
 pub enum Fate {
     Never,
     Held,

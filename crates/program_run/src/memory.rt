@@ -9,7 +9,7 @@ use address_map::{CoreId, CoreSet, LineAddr, WordAddr};
 use std::alloc::{AllocError, Global};
 
 /// What must be known of the events to determine the cause of each miss that may come, for 64 cores.
-#[derive(Debug, Drop)]
+#[derive(Drop)]
 pub struct Memory {
     lines: usize,
     /// For each line, what last became of each core's copy.

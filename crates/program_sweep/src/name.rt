@@ -22,7 +22,7 @@ static NAMES: [(&[u8], bool); 13] = [
 ];
 
 /// What bounds a run. No line that configures sets it.
-#[derive(Clone, Copy, Debug, PartialEq, Eq)]
+#[derive(Clone, Copy)]
 pub(crate) enum Bound {
     /// How many accesses of a core may be under way.
     Outstanding,

@@ -12,7 +12,7 @@ use litmus_text::{LineFault, Statements, parse_number};
 use std::fmt;
 
 /// What can be at a place of a line that isn't of a script.
-#[derive(Clone, Copy, Debug, PartialEq, Eq)]
+#[derive(Clone, Copy)]
 pub(super) enum Place {
     /// What a line of programs begins with.
     ProgramName,

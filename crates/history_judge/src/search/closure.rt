@@ -18,14 +18,14 @@ const CIRCLES: usize = 16;
 const NO_EDGE: u32 = u32::MAX;
 
 /// One access that comes before another, and how that is known.
-#[derive(Clone, Copy, Debug, PartialEq, Eq)]
+#[derive(Clone, Copy)]
 pub struct Edge {
     pub first: usize,
     pub last: usize,
     pub by: By,
 }
 
-#[derive(Clone, Copy, Debug, PartialEq, Eq)]
+#[derive(Clone, Copy)]
 pub enum By {
     Link(Why),
     /// The first found what this writer left, which comes before the last, and the last overwrites it.

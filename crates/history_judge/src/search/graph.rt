@@ -10,7 +10,7 @@ const CORES: usize = 256;
 
 /// The first end and the last begin of a cluster's accesses, and the accesses that have them. A cluster comes before
 /// each other one whose last begin is after its first end.
-#[derive(Clone, Copy, Debug, PartialEq, Eq)]
+#[derive(Clone, Copy)]
 pub struct Zone {
     pub end: u64,
     pub ended: usize,

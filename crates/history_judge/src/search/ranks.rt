@@ -9,7 +9,7 @@ use std::alloc::{AllocError, Global};
 const CORES: usize = 256;
 
 /// Two accesses of an order. The later one has to come before the earlier one.
-#[derive(Clone, Copy, Debug, PartialEq, Eq)]
+#[derive(Clone, Copy)]
 pub struct Pair {
     pub earlier: usize,
     pub later: usize,

@@ -5,7 +5,7 @@ use address_map::WordAddr;
 use std::alloc::{AllocError, Global};
 
 /// Where the value that an access found comes from.
-#[derive(Clone, Copy, Debug, PartialEq, Eq)]
+#[derive(Clone, Copy, PartialEq, Eq)]
 pub enum Source {
     /// It found none, or it isn't known which of several left it.
     Unknown,
@@ -65,7 +65,7 @@ impl Sources {
 }
 
 /// A value that nothing left.
-#[derive(Clone, Copy, Debug, PartialEq, Eq)]
+#[derive(Clone, Copy, PartialEq, Eq)]
 struct Unwritten;
 
 fn source_of(initial: u64, value: u64, writers: &Writers) -> Result<Source, Unwritten> {

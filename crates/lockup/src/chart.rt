@@ -3,7 +3,7 @@
 use super::subcommand::Subcommand;
 use litmus::{ChartArgs, TextKind, line_count, run_chart, run_svg};
 use litmus_text::TextFault;
-use lockup_front::{People, REFUSED, complain};
+use lockup_front::{REFUSED, Streams, complain};
 use std::alloc::Global;
 use std::io::Write;
 use std::rt::Files;
@@ -22,7 +22,7 @@ impl Subcommand for ChartArgs<'_> {
     fn print<R, W>(
         &self,
         rt: &R,
-        _people: People,
+        _streams: Streams,
         input: &[u8],
         out: &mut W,
     ) -> Result<u8, TextFault>
@@ -37,12 +37,12 @@ impl Subcommand for ChartArgs<'_> {
         }
     }
 
-    fn remark<R>(&self, rt: &R, people: People, input: &[u8], status: u8)
+    fn remark<R>(&self, rt: &R, streams: Streams, input: &[u8], status: u8)
     where
         R: AllocGlobal + Eprint,
     {
         if let (Some(line), REFUSED) = (self.line, status) {
-            complain_of_line(rt, people, line, input);
+            complain_of_line(rt, streams, line, input);
         }
     }
 }
@@ -63,16 +63,16 @@ fn write_picture<W: Write>(
 }
 
 /// Complains that the machine of a script lacks a line.
-fn complain_of_line<R: AllocGlobal + Eprint>(rt: &R, people: People, line: u64, input: &[u8]) {
+fn complain_of_line<R: AllocGlobal + Eprint>(rt: &R, streams: Streams, line: u64, input: &[u8]) {
     match line_count(rt.alloc(), input) {
         Ok(count) => {
             let last = count.saturating_sub(1);
             complain(
                 rt,
-                people,
+                streams,
                 format_args!("--line {line}: the machine has lines 0 to {last}"),
             );
         }
-        Err(fault) => complain(rt, people, fault),
+        Err(fault) => complain(rt, streams, fault),
     }
 }

@@ -7,7 +7,7 @@ ghost use Rattle.text_verdicts.specs.Check.{IsNotChecked};
 use super::subcommand::Subcommand;
 use litmus::{CheckArgs, TextKind, run_check, run_check_explained, run_check_json};
 use litmus_text::TextFault;
-use lockup_front::People;
+use lockup_front::Streams;
 use std::io::Write;
 use std::rt::Files;
 use std::sync::Wait;
@@ -25,7 +25,7 @@ impl Subcommand for CheckArgs<'_> {
     fn print<R, W>(
         &self,
         rt: &R,
-        _people: People,
+        _streams: Streams,
         input: &[u8],
         out: &mut W,
     ) -> Result<u8, TextFault>

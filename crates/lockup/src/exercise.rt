@@ -6,7 +6,7 @@ ghost use Rattle.script_test.specs.Judged.{IsStopped, PrintsTest};
 use super::subcommand::Subcommand;
 use litmus::{TestArgs, TextKind, run_test};
 use litmus_text::TextFault;
-use lockup_front::{People, REFUSED, complain};
+use lockup_front::{REFUSED, Streams, complain};
 use std::io::Write;
 use std::rt::Files;
 use std::sync::Wait;
@@ -30,7 +30,7 @@ impl Subcommand for TestArgs<'_> {
     fn print<R, W>(
         &self,
         rt: &R,
-        _people: People,
+        _streams: Streams,
         input: &[u8],
         out: &mut W,
     ) -> Result<u8, TextFault>
@@ -44,13 +44,13 @@ impl Subcommand for TestArgs<'_> {
         run_test(rt.alloc(), input, self.first, out)
     }
 
-    fn remark<R>(&self, rt: &R, people: People, _input: &[u8], status: u8)
+    fn remark<R>(&self, rt: &R, streams: Streams, _input: &[u8], status: u8)
     where
         R: AllocGlobal + Eprint,
     {
         match (status, self.explain) {
-            (REFUSED, true) => complain(rt, people, format_args!("{NO_TEST}   {HOW_TO_WANT}")),
-            (REFUSED, false) => complain(rt, people, NO_TEST),
+            (REFUSED, true) => complain(rt, streams, format_args!("{NO_TEST}   {HOW_TO_WANT}")),
+            (REFUSED, false) => complain(rt, streams, NO_TEST),
             _ => {}
         }
     }

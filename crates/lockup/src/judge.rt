@@ -7,7 +7,7 @@ ghost use Rattle.text_verdicts.specs.Judge.{IsJudgedAs, IsNotJudged};
 use super::subcommand::Subcommand;
 use litmus::{Extent, JudgeArgs, JudgeForm, TextKind, run_judge};
 use litmus_text::TextFault;
-use lockup_front::People;
+use lockup_front::Streams;
 use std::io::Write;
 use std::rt::Files;
 use std::sync::Wait;
@@ -25,7 +25,7 @@ impl Subcommand for JudgeArgs<'_> {
     fn print<R, W>(
         &self,
         rt: &R,
-        _people: People,
+        _streams: Streams,
         input: &[u8],
         out: &mut W,
     ) -> Result<u8, TextFault>

@@ -7,11 +7,8 @@
 //! walk, and for rows of programs.
 #![tactic(auto)]
 
-use export::export;
 use litmus::{CommandLine, read_line};
-use lockup_front::{
-    People, add_coverage, print_rows, print_what_breaks, print_workload, report, show,
-};
+use lockup_front::{Streams, add_coverage, print_rows, print_workload, report, show};
 use merge::merge;
 use std::env::VarError;
 use std::io::IsTerminal;
@@ -37,17 +34,18 @@ mod subcommand;
 mod table;
 mod threads;
 mod walk;
+mod what_if;
 
 fn main(rt: HostRuntime) -> ExitCode {
     let is_watched = rt.stderr().is_terminal();
     let may_color = may_color(&rt);
-    let people = People {
-        watch: is_watched,
-        type_lines: rt.stdin().is_terminal(),
+    let streams = Streams {
+        is_watched,
+        is_typed: rt.stdin().is_terminal(),
         color_answers: may_color && rt.stdout().is_terminal(),
         color_errors: may_color && is_watched,
     };
-    ExitCode::from(run(&rt, people))
+    ExitCode::from(run(&rt, streams))
 }
 
 /// Returns whether colors are wanted: the environment has no `NO_COLOR`, or an empty one.
@@ -59,13 +57,13 @@ fn may_color<R: Env + AllocGlobal>(rt: &R) -> bool {
 }
 
 /// Does what the command line asks for, and returns the exit status.
-fn run<R>(rt: &R, people: People) -> u8
+fn run<R>(rt: &R, streams: Streams) -> u8
 where
     R: Env + Files + Input + AllocGlobal + Print + Eprint + Threads + Wait + Sync,
 {
     match read_words(rt) {
-        Ok(words) => run_words(rt, people, words.as_slice()),
-        Err(error) => report(rt, people, &error, unread(&error)),
+        Ok(words) => run_words(rt, streams, words.as_slice()),
+        Err(error) => report(rt, streams, &error, unread(&error)),
     }
 }
 
@@ -74,41 +72,41 @@ fn read_words<R: Env + AllocGlobal>(rt: &R) -> io::Result<Vec<String>> {
 }
 
 // Each function owns at most one value, and callees borrow it: proof time grows with what is live at an exit.
-fn run_words<R>(rt: &R, people: People, words: &[String]) -> u8
+fn run_words<R>(rt: &R, streams: Streams, words: &[String]) -> u8
 where
     R: Env + Files + Input + AllocGlobal + Print + Eprint + Threads + Wait + Sync,
 {
     match read_line(rt.alloc(), words) {
-        Ok(line) => run_line(rt, people, words, line),
-        Err(error) => show(rt, people, &error),
+        Ok(line) => run_line(rt, streams, words, line),
+        Err(error) => show(rt, streams, &error),
     }
 }
 
 /// Does what the line asks for, which is in these words.
-fn run_line<R>(rt: &R, people: People, words: &[String], line: CommandLine<'_>) -> u8
+fn run_line<R>(rt: &R, streams: Streams, words: &[String], line: CommandLine<'_>) -> u8
 where
     R: Env + Files + Input + AllocGlobal + Print + Eprint + Threads + Wait + Sync,
 {
     match line {
-        CommandLine::Script(args) => subcommand::run(rt, people, &args),
-        CommandLine::Coverage => add_coverage(rt, people, words),
-        CommandLine::Try(args) => subcommand::run(rt, people, &args),
-        CommandLine::Chart(args) => subcommand::run(rt, people, &args),
-        CommandLine::Page(args) => subcommand::run(rt, people, &args),
-        CommandLine::Litmus(args) => subcommand::run(rt, people, &args),
-        CommandLine::Walk(args) => subcommand::run(rt, people, &args),
-        CommandLine::Part(args) => subcommand::run(rt, people, &args),
-        CommandLine::Merge(args) => merge(rt, people, words, args),
-        CommandLine::Run(args) => subcommand::run(rt, people, &args),
-        CommandLine::Sweep(args) => print_rows(rt, people, words, args),
-        CommandLine::Generate(args) => print_workload(rt, people, args),
-        CommandLine::Test(args) => subcommand::run(rt, people, &args),
-        CommandLine::Check(args) => subcommand::run(rt, people, &args),
-        CommandLine::Judge(args) => subcommand::run(rt, people, &args),
-        CommandLine::Table(args) => subcommand::run(rt, people, &args),
-        CommandLine::WhatIf(args) => print_what_breaks(rt, people, args),
-        CommandLine::Export(args) => export(rt, people, args),
-        CommandLine::Queries(args) => subcommand::run(rt, people, &args),
+        CommandLine::Script(args) => subcommand::run(rt, streams, &args),
+        CommandLine::Coverage => add_coverage(rt, streams, words),
+        CommandLine::Try(args) => subcommand::run(rt, streams, &args),
+        CommandLine::Chart(args) => subcommand::run(rt, streams, &args),
+        CommandLine::Page(args) => subcommand::run(rt, streams, &args),
+        CommandLine::Litmus(args) => subcommand::run(rt, streams, &args),
+        CommandLine::Walk(args) => subcommand::run(rt, streams, &args),
+        CommandLine::Part(args) => subcommand::run(rt, streams, &args),
+        CommandLine::Merge(args) => merge(rt, streams, words, args),
+        CommandLine::Run(args) => subcommand::run(rt, streams, &args),
+        CommandLine::Sweep(args) => print_rows(rt, streams, words, args),
+        CommandLine::Generate(args) => print_workload(rt, streams, args),
+        CommandLine::Test(args) => subcommand::run(rt, streams, &args),
+        CommandLine::Check(args) => subcommand::run(rt, streams, &args),
+        CommandLine::Judge(args) => subcommand::run(rt, streams, &args),
+        CommandLine::Table(args) => subcommand::run(rt, streams, &args),
+        CommandLine::WhatIf(args) => subcommand::run(rt, streams, &args),
+        CommandLine::Export(args) => subcommand::run(rt, streams, &args),
+        CommandLine::Queries(args) => subcommand::run(rt, streams, &args),
     }
 }
 

@@ -4,11 +4,10 @@ use super::outcomes::outcome_form;
 use litmus::{MergeArgs, Merged, print_merged, read_files};
 use litmus_text::TextFault;
 use lockup_front::{
-    People, REFUSED, complain, end, merged_parts, print_merged_rows, show, text_of,
+    REFUSED, Streams, buffered, complain, end, flushed, merged_parts, print_merged_rows, show,
+    text_of,
 };
 use program_rows::are_rows;
-use std::io;
-use std::io::{BufWriter, Write};
 use std::rt::Files;
 
 /// The error for rows with `--json`.
@@ -18,17 +17,17 @@ const NO_JSON: &str = "--json: rows are put together as CSV alone";
 const NO_MEAN: &str = "--mean: a walk has outcomes, and no means";
 
 /// Puts the rows of the files together, or after a litmus test the parts of its walk. Returns the exit status.
-pub(super) fn merge<R>(rt: &R, people: People, words: &[String], args: MergeArgs) -> u8
+pub(super) fn merge<R>(rt: &R, streams: Streams, words: &[String], args: MergeArgs) -> u8
 where
     R: Files + Input + AllocGlobal + Print + Eprint,
 {
     match read_files(rt.alloc(), words) {
-        Ok(files) => merge_files(rt, people, files.as_slice(), args),
-        Err(error) => show(rt, people, &error),
+        Ok(files) => merge_files(rt, streams, files.as_slice(), args),
+        Err(error) => show(rt, streams, &error),
     }
 }
 
-fn merge_files<R>(rt: &R, people: People, files: &[&str], args: MergeArgs) -> u8
+fn merge_files<R>(rt: &R, streams: Streams, files: &[&str], args: MergeArgs) -> u8
 where
     R: Files + Input + AllocGlobal + Print + Eprint,
 {
@@ -36,15 +35,15 @@ where
     let Some((file, parts)) = files.split_first() else {
         return REFUSED;
     };
-    let text = match text_of(rt, people, file) {
+    let text = match text_of(rt, streams, file) {
         Ok(text) => text,
         Err(status) => return status,
     };
     match (are_rows(text.as_slice()), args.json, args.mean) {
-        (true, false, mean) => print_merged_rows(rt, people, files, text.as_slice(), mean),
-        (false, json, false) => merge_parts(rt, people, text.as_slice(), parts, json),
+        (true, false, mean) => print_merged_rows(rt, streams, files, text.as_slice(), mean),
+        (false, json, false) => merge_parts(rt, streams, text.as_slice(), parts, json),
         (is_rows, _, _) => {
-            complain(rt, people, if is_rows { NO_JSON } else { NO_MEAN });
+            complain(rt, streams, if is_rows { NO_JSON } else { NO_MEAN });
             REFUSED
         }
     }
@@ -52,12 +51,12 @@ where
 
 /// Puts parts of a walk of a litmus test together, and prints what one walk of all their rounds prints. Returns the exit
 /// status.
-fn merge_parts<R>(rt: &R, people: People, test: &[u8], files: &[&str], json: bool) -> u8
+fn merge_parts<R>(rt: &R, streams: Streams, test: &[u8], files: &[&str], json: bool) -> u8
 where
     R: Files + Input + AllocGlobal + Print + Eprint,
 {
-    match merged_parts(rt, people, test, files) {
-        Ok(merged) => end(rt, people, write_merged(rt, test, &merged, json)),
+    match merged_parts(rt, streams, test, files) {
+        Ok(merged) => end(rt, streams, write_merged(rt, test, &merged, json)),
         Err(status) => status,
     }
 }
@@ -66,12 +65,7 @@ fn write_merged<R>(rt: &R, test: &[u8], merged: &Merged, json: bool) -> Result<u
 where
     R: AllocGlobal + Print,
 {
-    let Ok(mut out) = BufWriter::new(rt.alloc(), io::writer(rt)) else {
-        return Err(TextFault::NoMemory);
-    };
+    let mut out = buffered(rt)?;
     let printed = print_merged(rt.alloc(), test, merged, outcome_form(json), &mut out);
-    match out.flush() {
-        Ok(()) => printed,
-        Err(_) => Err(TextFault::CannotWrite),
-    }
+    flushed(&mut out, printed)
 }

@@ -8,7 +8,7 @@ ghost use Rattle.script_page.specs.Page.{IsPage, IsPageFault};
 use super::subcommand::Subcommand;
 use litmus::{PageArgs, TextKind, run_page};
 use litmus_text::TextFault;
-use lockup_front::People;
+use lockup_front::Streams;
 use std::io::Write;
 use std::rt::Files;
 use std::sync::Wait;
@@ -26,7 +26,7 @@ impl Subcommand for PageArgs<'_> {
     fn print<R, W>(
         &self,
         rt: &R,
-        _people: People,
+        _streams: Streams,
         input: &[u8],
         out: &mut W,
     ) -> Result<u8, TextFault>

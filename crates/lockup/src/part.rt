@@ -4,7 +4,7 @@ use super::outcomes::jobs_of;
 use super::subcommand::Subcommand;
 use litmus::{PartArgs, TextKind, print_parts};
 use litmus_text::TextFault;
-use lockup_front::{Counted, People, REFUSED, Shown, complain, known_parts};
+use lockup_front::{Counted, REFUSED, Shown, Streams, complain, known_parts};
 use std::io::Write;
 use std::rt::Files;
 use std::sync::Wait;
@@ -25,7 +25,7 @@ impl Subcommand for PartArgs<'_> {
     fn print<R, W>(
         &self,
         rt: &R,
-        people: People,
+        streams: Streams,
         input: &[u8],
         out: &mut W,
     ) -> Result<u8, TextFault>
@@ -33,13 +33,13 @@ impl Subcommand for PartArgs<'_> {
         R: Files + Input + AllocGlobal + Eprint + Threads + Wait + Sync,
         W: Write,
     {
-        let known = match known_parts(rt, people, input, self.resume) {
+        let known = match known_parts(rt, streams, input, self.resume) {
             Ok(known) => known,
             Err(status) => return Ok(status),
         };
         let (rounds, seed, limit) = (self.rounds, self.seed, self.limit);
         let (jobs, known) = (jobs_of(rt, self.jobs), known.as_slice());
-        let shown = &mut Shown::new(rt, people, Counted::Rounds);
+        let shown = &mut Shown::new(rt, streams, Counted::Rounds);
         let printed = print_parts(
             rt.alloc(),
             rt,
@@ -53,7 +53,7 @@ impl Subcommand for PartArgs<'_> {
             out,
         );
         if let (Some(file), Ok(REFUSED)) = (self.resume, printed) {
-            complain(rt, people, format_args!("{file}: {OTHER_ROUNDS}"));
+            complain(rt, streams, format_args!("{file}: {OTHER_ROUNDS}"));
         }
         printed
     }

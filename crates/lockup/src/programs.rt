@@ -6,7 +6,7 @@ use litmus::{
     write_schedule,
 };
 use litmus_text::TextFault;
-use lockup_front::{Counted, People, Shown, head_of, tell_unused};
+use lockup_front::{Counted, Shown, Streams, head_of, tell_unused};
 use std::io::Write;
 use std::rt::Files;
 use std::sync::Wait;
@@ -24,7 +24,7 @@ impl Subcommand for RunArgs<'_> {
     fn print<R, W>(
         &self,
         rt: &R,
-        people: People,
+        streams: Streams,
         input: &[u8],
         out: &mut W,
     ) -> Result<u8, TextFault>
@@ -37,7 +37,7 @@ impl Subcommand for RunArgs<'_> {
         let view = match self.form {
             ScheduleForm::Script => return write_schedule(alloc, input, limits, seed, out),
             ScheduleForm::Report { json } => {
-                let shown = &mut Shown::new(rt, people, Counted::Steps);
+                let shown = &mut Shown::new(rt, streams, Counted::Steps);
                 return run_programs(alloc, input, limits, seed, report_form(json), shown, out);
             }
             ScheduleForm::Page => {
@@ -50,11 +50,11 @@ impl Subcommand for RunArgs<'_> {
         view_schedule(alloc, view, Vec::new(alloc), input, limits, seed, out)
     }
 
-    fn remark<R>(&self, rt: &R, people: People, input: &[u8], _status: u8)
+    fn remark<R>(&self, rt: &R, streams: Streams, input: &[u8], _status: u8)
     where
         R: AllocGlobal + Eprint,
     {
-        tell_unused(rt, people, input, limits_of(self));
+        tell_unused(rt, streams, input, limits_of(self));
     }
 }
 

@@ -3,7 +3,7 @@
 use super::subcommand::Subcommand;
 use litmus::{TextKind, TryArgs};
 use litmus_text::TextFault;
-use lockup_front::{People, answer_lines};
+use lockup_front::{Streams, answer_lines};
 use std::io::Write;
 use std::rt::Files;
 use std::sync::Wait;
@@ -18,10 +18,14 @@ impl Subcommand for TryArgs<'_> {
         Some(TextKind::Script)
     }
 
+    fn is_colored(&self) -> bool {
+        true
+    }
+
     fn print<R, W>(
         &self,
         rt: &R,
-        people: People,
+        streams: Streams,
         input: &[u8],
         out: &mut W,
     ) -> Result<u8, TextFault>
@@ -29,6 +33,6 @@ impl Subcommand for TryArgs<'_> {
         R: Files + Input + AllocGlobal + Eprint + Threads + Wait + Sync,
         W: Write,
     {
-        answer_lines(rt, input, people.type_lines, out)
+        answer_lines(rt, input, streams.is_typed, out)
     }
 }

@@ -9,7 +9,7 @@ use litmus::{
     run_script, run_trace, run_waves,
 };
 use litmus_text::TextFault;
-use lockup_front::People;
+use lockup_front::Streams;
 use std::io::Write;
 use std::rt::Files;
 use std::sync::Wait;
@@ -29,10 +29,14 @@ impl Subcommand for ScriptArgs<'_> {
         }
     }
 
+    fn is_colored(&self) -> bool {
+        self.explained().is_some()
+    }
+
     fn print<R, W>(
         &self,
         rt: &R,
-        _people: People,
+        _streams: Streams,
         input: &[u8],
         out: &mut W,
     ) -> Result<u8, TextFault>

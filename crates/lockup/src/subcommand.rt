@@ -4,9 +4,9 @@ ghost use denote.Param.Send.{IsSync};
 
 use litmus::{TextKind, hint};
 use litmus_text::TextFault;
-use lockup_front::{Painted, People, complain, read, report};
+use lockup_front::{Painted, Streams, buffered, complain, flushed, read, report};
 use std::io;
-use std::io::{BufWriter, Write};
+use std::io::Write;
 use std::rt::Files;
 use std::sync::Wait;
 use std::thread::Threads;
@@ -16,9 +16,14 @@ pub(super) trait Subcommand {
     /// Returns the file of the text, if there is one.
     fn file(&self) -> Option<&str>;
 
-    /// Returns the kind of text whose errors are explained, if they are. The answers to a script are colored then.
+    /// Returns the kind of text whose errors are explained, if they are.
     fn explained(&self) -> Option<TextKind> {
         None
+    }
+
+    /// Returns whether what moved and what is blocked is colored on a terminal.
+    fn is_colored(&self) -> bool {
+        false
     }
 
     /// Prints what the text comes to, including the answers before a fault, and returns the exit status: `REFUSED` where
@@ -26,7 +31,7 @@ pub(super) trait Subcommand {
     fn print<R, W>(
         &self,
         rt: &R,
-        people: People,
+        streams: Streams,
         input: &[u8],
         out: &mut W,
     ) -> Result<u8, TextFault>
@@ -37,70 +42,63 @@ pub(super) trait Subcommand {
         requires { IsSync R.row };
 
     /// Reports of a run that ended with this status what its output doesn't say.
-    fn remark<R>(&self, _rt: &R, _people: People, _input: &[u8], _status: u8)
+    fn remark<R>(&self, _rt: &R, _streams: Streams, _input: &[u8], _status: u8)
     where
         R: AllocGlobal + Eprint,
     {}
 }
 
 /// Reads the text that a subcommand names, and prints what it comes to. Returns the exit status.
-pub(super) fn run<R, S>(rt: &R, people: People, asked: &S) -> u8
+pub(super) fn run<R, S>(rt: &R, streams: Streams, asked: &S) -> u8
 where
     R: Files + Input + AllocGlobal + Print + Eprint + Threads + Wait + Sync,
     S: Subcommand,
 {
     let Some(file) = asked.file() else {
-        return run_text(rt, people, asked, &[]);
+        return run_text(rt, streams, asked, &[]);
     };
     match read(rt, file) {
-        Ok(input) => run_text(rt, people, asked, input.as_slice()),
+        Ok(input) => run_text(rt, streams, asked, input.as_slice()),
         Err(error) => match why_unread(asked.explained(), &error) {
             Some(why) => {
                 report(
                     rt,
-                    people,
+                    streams,
                     &error,
                     format_args!("cannot read {file}   {why}"),
                 )
             }
-            None => report(rt, people, &error, format_args!("cannot read {file}")),
+            None => report(rt, streams, &error, format_args!("cannot read {file}")),
         },
     }
 }
 
-fn run_text<R, S>(rt: &R, people: People, asked: &S, input: &[u8]) -> u8
+fn run_text<R, S>(rt: &R, streams: Streams, asked: &S, input: &[u8]) -> u8
 where
     R: Files + Input + AllocGlobal + Print + Eprint + Threads + Wait + Sync,
     S: Subcommand,
 {
-    match print(rt, people, asked, input) {
+    match print(rt, streams, asked, input) {
         Ok(status) => {
-            asked.remark(rt, people, input, status);
+            asked.remark(rt, streams, input, status);
             status
         }
         Err(fault) => {
-            complain_of(rt, people, asked.explained(), input, fault);
+            complain_of(rt, streams, asked.explained(), input, fault);
             fault.status()
         }
     }
 }
 
-fn print<R, S>(rt: &R, people: People, asked: &S, input: &[u8]) -> Result<u8, TextFault>
+fn print<R, S>(rt: &R, streams: Streams, asked: &S, input: &[u8]) -> Result<u8, TextFault>
 where
     R: Files + Input + AllocGlobal + Print + Eprint + Threads + Wait + Sync,
     S: Subcommand,
 {
-    let Ok(out) = BufWriter::new(rt.alloc(), io::writer(rt)) else {
-        return Err(TextFault::NoMemory);
-    };
-    // Answers with their reasons show what moved and what is blocked, which have colors.
-    let is_colored = people.color_answers && matches!(asked.explained(), Some(TextKind::Script));
-    let mut out = Painted::new(out, is_colored);
-    let printed = asked.print(rt, people, input, &mut out);
-    match out.flush() {
-        Ok(()) => printed,
-        Err(_) => Err(TextFault::CannotWrite),
-    }
+    let is_colored = streams.color_answers && asked.is_colored();
+    let mut out = Painted::new(buffered(rt)?, is_colored);
+    let printed = asked.print(rt, streams, input, &mut out);
+    flushed(&mut out, printed)
 }
 
 /// Returns why a file can't be read, where errors are explained.
@@ -118,7 +116,7 @@ fn why_unread(explained: Option<TextKind>, error: &io::Error) -> Option<&'static
 /// Complains of a fault, and where errors are explained reports what its reader may want to know.
 fn complain_of<R>(
     rt: &R,
-    people: People,
+    streams: Streams,
     explained: Option<TextKind>,
     input: &[u8],
     fault: TextFault,
@@ -127,10 +125,10 @@ where
     R: AllocGlobal + Eprint,
 {
     let Some(kind) = explained else {
-        return complain(rt, people, fault);
+        return complain(rt, streams, fault);
     };
     match hint(rt.alloc(), kind, input, fault) {
-        Some(hint) => complain(rt, people, format_args!("{fault}   {hint}")),
-        None => complain(rt, people, fault),
+        Some(hint) => complain(rt, streams, format_args!("{fault}   {hint}")),
+        None => complain(rt, streams, fault),
     }
 }

@@ -7,7 +7,7 @@ ghost use Rattle.lockup.specs.Printed.{text_of};
 use super::subcommand::Subcommand;
 use litmus::{TableArgs, run_table, run_table_cells};
 use litmus_text::TextFault;
-use lockup_front::People;
+use lockup_front::Streams;
 use std::io::Write;
 use std::rt::Files;
 use std::sync::Wait;
@@ -21,7 +21,7 @@ impl Subcommand for TableArgs {
     fn print<R, W>(
         &self,
         _rt: &R,
-        _people: People,
+        _streams: Streams,
         _input: &[u8],
         out: &mut W,
     ) -> Result<u8, TextFault>

@@ -4,7 +4,7 @@ use super::outcomes::outcome_form;
 use super::subcommand::Subcommand;
 use litmus::{LitmusArgs, TextKind, run_litmus_as, trace_litmus};
 use litmus_text::TextFault;
-use lockup_front::{Counted, People, Shown, tell_unforbidden};
+use lockup_front::{Counted, Shown, Streams, tell_unforbidden};
 use std::io::Write;
 use std::rt::Files;
 use std::sync::Wait;
@@ -22,7 +22,7 @@ impl Subcommand for LitmusArgs<'_> {
     fn print<R, W>(
         &self,
         rt: &R,
-        people: People,
+        streams: Streams,
         input: &[u8],
         out: &mut W,
     ) -> Result<u8, TextFault>
@@ -34,19 +34,19 @@ impl Subcommand for LitmusArgs<'_> {
         match self.trace {
             Some(round) => trace_litmus(rt.alloc(), rt, input, seed, limit, round, out),
             None => {
-                let shown = &mut Shown::new(rt, people, Counted::Rounds);
+                let shown = &mut Shown::new(rt, streams, Counted::Rounds);
                 let form = outcome_form(self.json);
                 run_litmus_as(rt.alloc(), rt, input, seed, limit, form, shown, out)
             }
         }
     }
 
-    fn remark<R>(&self, rt: &R, people: People, input: &[u8], status: u8)
+    fn remark<R>(&self, rt: &R, streams: Streams, input: &[u8], status: u8)
     where
         R: AllocGlobal + Eprint,
     {
         if self.trace.is_none() && status == 0 {
-            tell_unforbidden(rt, people, input);
+            tell_unforbidden(rt, streams, input);
         }
     }
 }

@@ -6,7 +6,7 @@ use litmus::{
     ScheduleForm, TextKind, View, WalkArgs, coverage_walk, run_walk, view_walk, write_walk,
 };
 use litmus_text::TextFault;
-use lockup_front::{Counted, People, Shown, head_of, tell_unforbidden};
+use lockup_front::{Counted, Shown, Streams, head_of, tell_unforbidden};
 use std::io::Write;
 use std::rt::Files;
 use std::sync::Wait;
@@ -24,7 +24,7 @@ impl Subcommand for WalkArgs<'_> {
     fn print<R, W>(
         &self,
         rt: &R,
-        people: People,
+        streams: Streams,
         input: &[u8],
         out: &mut W,
     ) -> Result<u8, TextFault>
@@ -34,7 +34,7 @@ impl Subcommand for WalkArgs<'_> {
     {
         let alloc = rt.alloc();
         let (rounds, seed, limit) = (self.rounds, self.seed, self.limit);
-        let shown = &mut Shown::new(rt, people, Counted::Rounds);
+        let shown = &mut Shown::new(rt, streams, Counted::Rounds);
         match self.form {
             ScheduleForm::Script => write_walk(alloc, input, seed, limit, out),
             ScheduleForm::Page => {
@@ -55,12 +55,12 @@ impl Subcommand for WalkArgs<'_> {
         }
     }
 
-    fn remark<R>(&self, rt: &R, people: People, input: &[u8], status: u8)
+    fn remark<R>(&self, rt: &R, streams: Streams, input: &[u8], status: u8)
     where
         R: AllocGlobal + Eprint,
     {
         if matches!(self.form, ScheduleForm::Report { .. }) && status == 0 {
-            tell_unforbidden(rt, people, input);
+            tell_unforbidden(rt, streams, input);
         }
     }
 }

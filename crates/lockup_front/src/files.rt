@@ -1,6 +1,6 @@
 //! Files, and standard input.
 
-use super::people::{People, complain, report};
+use super::streams::{Streams, complain, report};
 use std::fmt::Display;
 use std::io::Read;
 use std::rt::Files;
@@ -20,13 +20,13 @@ pub fn read<R: Files + Input + AllocGlobal>(rt: &R, file: &str) -> io::Result<Ve
 }
 
 /// Reads a file. At Err, the error was reported, and this is the exit status.
-pub fn text_of<R>(rt: &R, people: People, file: &str) -> Result<Vec<u8>, u8>
+pub fn text_of<R>(rt: &R, streams: Streams, file: &str) -> Result<Vec<u8>, u8>
 where
     R: Files + Input + AllocGlobal + Eprint,
 {
     match read(rt, file) {
         Ok(text) => Ok(text),
-        Err(error) => Err(report(rt, people, &error, format_args!("cannot read {file}"))),
+        Err(error) => Err(report(rt, streams, &error, format_args!("cannot read {file}"))),
     }
 }
 
@@ -38,14 +38,14 @@ pub(crate) fn named<'a>(files: &[&'a str], number: Option<usize>) -> Option<&'a 
 /// Complains of a fault in a file, and of the other file that it speaks of.
 pub(crate) fn complain_of_files<R: Eprint>(
     rt: &R,
-    people: People,
+    streams: Streams,
     file: Option<&str>,
     other: Option<&str>,
     fault: impl Display + Drop,
 ) {
     match (file, other) {
-        (Some(file), Some(other)) => complain(rt, people, format_args!("{file}: {fault} {other}")),
-        (Some(file), None) => complain(rt, people, format_args!("{file}: {fault}")),
-        (None, _) => complain(rt, people, fault),
+        (Some(file), Some(other)) => complain(rt, streams, format_args!("{file}: {fault} {other}")),
+        (Some(file), None) => complain(rt, streams, format_args!("{file}: {fault}")),
+        (None, _) => complain(rt, streams, fault),
     }
 }

@@ -1,38 +1,44 @@
 //! Rows of several files, put together.
 
 use super::files::{complain_of_files, named, text_of};
-use super::people::People;
+use super::streams::Streams;
 use program_rows::{Rows, RowsFault};
 use std::io::{self, BufWriter, Write};
 use std::rt::Files;
 
 /// Prints the rows of the files, each once, or the means of each combination of settings. `first` is the text of the
 /// first file. Returns the exit status.
-pub fn print_merged_rows<R>(rt: &R, people: People, files: &[&str], first: &[u8], mean: bool) -> u8
+pub fn print_merged_rows<R>(
+    rt: &R,
+    streams: Streams,
+    files: &[&str],
+    first: &[u8],
+    mean: bool,
+) -> u8
 where
     R: Files + Input + AllocGlobal + Print + Eprint,
 {
     let mut rows = Rows::new(rt.alloc());
     if let Err(fault) = rows.read(0, first) {
-        return refuse(rt, people, files, fault);
+        return refuse(rt, streams, files, fault);
     }
-    if let Err(status) = read_others(rt, people, files, &mut rows) {
+    if let Err(status) = read_others(rt, streams, files, &mut rows) {
         return status;
     }
     match write(rt, &rows, mean) {
         Ok(()) => 0,
-        Err(fault) => refuse(rt, people, files, fault),
+        Err(fault) => refuse(rt, streams, files, fault),
     }
 }
 
-fn read_others<R>(rt: &R, people: People, files: &[&str], rows: &mut Rows) -> Result<(), u8>
+fn read_others<R>(rt: &R, streams: Streams, files: &[&str], rows: &mut Rows) -> Result<(), u8>
 where
     R: Files + Input + AllocGlobal + Eprint,
 {
     for (number, file) in files.iter().enumerate().skip(1) {
-        let text = text_of(rt, people, file)?;
+        let text = text_of(rt, streams, file)?;
         if let Err(fault) = rows.read(number, text.as_slice()) {
-            return Err(refuse(rt, people, files, fault));
+            return Err(refuse(rt, streams, files, fault));
         }
     }
     Ok(())
@@ -57,8 +63,8 @@ where
 }
 
 /// Reports why rows can't be put together, and returns the exit status.
-fn refuse<R: Eprint>(rt: &R, people: People, files: &[&str], fault: RowsFault) -> u8 {
+fn refuse<R: Eprint>(rt: &R, streams: Streams, files: &[&str], fault: RowsFault) -> u8 {
     let (file, other) = (named(files, fault.file()), named(files, fault.other()));
-    complain_of_files(rt, people, file, other, fault);
+    complain_of_files(rt, streams, file, other, fault);
     fault.status()
 }

@@ -1,6 +1,6 @@
 //! How far a long run is.
 
-use super::people::People;
+use super::streams::Streams;
 use litmus_test::Progress;
 
 /// How many rounds lie between two reports of how far a run has got. Before the first, rounds that take long
@@ -47,11 +47,11 @@ pub struct Shown<'a, R: Eprint> {
 }
 
 impl<'a, R: Eprint> Shown<'a, R> {
-    /// Returns what shows these people how many are done.
-    pub const fn new(rt: &'a R, people: People, counted: Counted) -> Self {
+    /// Returns what shows there how many are done.
+    pub const fn new(rt: &'a R, streams: Streams, counted: Counted) -> Self {
         Shown {
             rt,
-            is_watched: people.watch,
+            is_watched: streams.is_watched,
             counted,
         }
     }

@@ -10,7 +10,7 @@ use std::rt::Files;
 /// What is shown if somebody types, while a line is waited for.
 const MARK: &str = "> ";
 
-/// The files of this machine.
+/// The files that the runtime reaches.
 #[derive(Drop)]
 struct Disk<'a, R: Files> {
     rt: &'a R,

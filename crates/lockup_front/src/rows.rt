@@ -1,8 +1,8 @@
 //! The rows of a sweep.
 
 use super::files::text_of;
-use super::people::{People, complain, fail, show};
 use super::progress::{Counted, Shown};
+use super::streams::{Streams, complain, fail, show};
 use super::unused::tell_unused_settings;
 use litmus_command_line::{SweepArgs, read_settings};
 use litmus_text::TextFault;
@@ -15,50 +15,56 @@ use std::thread::Threads;
 
 /// Runs the programs in a file once for each row that the command line asks for, and prints the rows. Returns the exit
 /// status.
-pub fn print_rows<R>(rt: &R, people: People, words: &[String], args: SweepArgs<'_>) -> u8
+pub fn print_rows<R>(rt: &R, streams: Streams, words: &[String], args: SweepArgs<'_>) -> u8
 where
     R: Files + Input + AllocGlobal + Print + Eprint + Threads + Sync,
 {
     match read_settings(rt.alloc(), words) {
-        Ok(settings) => run_settings(rt, people, settings.as_slice(), args),
-        Err(error) => show(rt, people, &error),
+        Ok(settings) => run_settings(rt, streams, settings.as_slice(), args),
+        Err(error) => show(rt, streams, &error),
     }
 }
 
-fn run_settings<R>(rt: &R, people: People, settings: &[&str], args: SweepArgs<'_>) -> u8
+fn run_settings<R>(rt: &R, streams: Streams, settings: &[&str], args: SweepArgs<'_>) -> u8
 where
     R: Files + Input + AllocGlobal + Print + Eprint + Threads + Sync,
 {
     match read_sweep(rt.alloc(), settings, args) {
-        Ok(sweep) => read_and_run(rt, people, &sweep, args),
+        Ok(sweep) => read_and_run(rt, streams, &sweep, args),
         Err(fault) => {
-            complain(rt, people, fault);
+            complain(rt, streams, fault);
             fault.status()
         }
     }
 }
 
-fn read_and_run<R>(rt: &R, people: People, sweep: &Sweep<'_>, args: SweepArgs<'_>) -> u8
+fn read_and_run<R>(rt: &R, streams: Streams, sweep: &Sweep<'_>, args: SweepArgs<'_>) -> u8
 where
     R: Files + Input + AllocGlobal + Print + Eprint + Threads + Sync,
 {
-    match text_of(rt, people, args.file) {
-        Ok(input) => run_input(rt, people, input.as_slice(), sweep, args),
+    match text_of(rt, streams, args.file) {
+        Ok(input) => run_input(rt, streams, input.as_slice(), sweep, args),
         Err(status) => status,
     }
 }
 
-fn run_input<R>(rt: &R, people: People, input: &[u8], sweep: &Sweep<'_>, args: SweepArgs<'_>) -> u8
+fn run_input<R>(
+    rt: &R,
+    streams: Streams,
+    input: &[u8],
+    sweep: &Sweep<'_>,
+    args: SweepArgs<'_>,
+) -> u8
 where
     R: Files + Input + AllocGlobal + Print + Eprint + Threads + Sync,
 {
-    match write_rows(rt, people, input, sweep, args) {
+    match write_rows(rt, streams, input, sweep, args) {
         Ok(()) => {
             let settings = sweep.settings.as_slice();
-            tell_unused_settings(rt, people, input, settings, limits_of(args));
+            tell_unused_settings(rt, streams, input, settings, limits_of(args));
             0
         }
-        Err(fault) => complain_of(rt, people, sweep, fault),
+        Err(fault) => complain_of(rt, streams, sweep, fault),
     }
 }
 
@@ -85,7 +91,7 @@ const fn limits_of(args: SweepArgs<'_>) -> Limits {
 /// Prints the rows, including those before a fault.
 fn write_rows<R>(
     rt: &R,
-    people: People,
+    streams: Streams,
     input: &[u8],
     sweep: &Sweep<'_>,
     args: SweepArgs<'_>,
@@ -102,7 +108,7 @@ where
     let Ok(mut out) = BufWriter::new(rt.alloc(), io::writer(rt)) else {
         return Err(RowFault::NoMemory);
     };
-    let mut shown = Shown::new(rt, people, Counted::Rows);
+    let mut shown = Shown::new(rt, streams, Counted::Rows);
     let ran = run_sweep(
         rt.alloc(),
         rt,
@@ -120,7 +126,7 @@ where
 }
 
 /// Complains of a fault, and returns the exit status.
-fn complain_of<R>(rt: &R, people: People, sweep: &Sweep<'_>, fault: RowFault) -> u8
+fn complain_of<R>(rt: &R, streams: Streams, sweep: &Sweep<'_>, fault: RowFault) -> u8
 where
     R: AllocGlobal + Eprint,
 {
@@ -128,12 +134,12 @@ where
         RowFault::Row { row, refusal } => {
             let mut name = String::new(rt.alloc());
             if sweep.name(row, &mut name).is_err() {
-                return fail(rt, people, TextFault::NoMemory);
+                return fail(rt, streams, TextFault::NoMemory);
             }
-            complain(rt, people, format_args!("{name}: {refusal}"));
+            complain(rt, streams, format_args!("{name}: {refusal}"));
             refusal.status()
         }
-        RowFault::CannotWrite => fail(rt, people, TextFault::CannotWrite),
-        RowFault::NoMemory => fail(rt, people, TextFault::NoMemory),
+        RowFault::CannotWrite => fail(rt, streams, TextFault::CannotWrite),
+        RowFault::NoMemory => fail(rt, streams, TextFault::NoMemory),
     }
 }

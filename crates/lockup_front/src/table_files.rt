@@ -1,7 +1,7 @@
 //! Tables with changed cells, read from files.
 
 use super::files::text_of;
-use super::people::{People, REFUSED, complain};
+use super::streams::{REFUSED, Streams, complain};
 use changed_tables::{
     CacheChange, DirectoryChange, TableFault, Tables, read_cache_table, read_directory_table,
 };
@@ -13,7 +13,7 @@ use std::rt::Files;
 /// exit status.
 pub fn read_tables<R>(
     rt: &R,
-    people: People,
+    streams: Streams,
     files: TableFiles<'_>,
     exclusive: bool,
 ) -> Result<Tables, u8>
@@ -22,14 +22,14 @@ where
 {
     Ok(Tables {
         exclusive,
-        cache: cache_changes(rt, people, files.cache, exclusive)?,
-        directory: directory_changes(rt, people, files.directory, exclusive)?,
+        cache: cache_changes(rt, streams, files.cache, exclusive)?,
+        directory: directory_changes(rt, streams, files.directory, exclusive)?,
     })
 }
 
 fn cache_changes<R>(
     rt: &R,
-    people: People,
+    streams: Streams,
     file: Option<&str>,
     exclusive: bool,
 ) -> Result<Vec<CacheChange>, u8>
@@ -39,16 +39,16 @@ where
     let Some(file) = file else {
         return Ok(Vec::new(rt.alloc()));
     };
-    let text = text_of(rt, people, file)?;
+    let text = text_of(rt, streams, file)?;
     match read_cache_table(rt.alloc(), exclusive, &text) {
         Ok(changes) => Ok(changes),
-        Err(fault) => Err(refuse(rt, people, file, &text, fault)),
+        Err(fault) => Err(refuse(rt, streams, file, &text, fault)),
     }
 }
 
 fn directory_changes<R>(
     rt: &R,
-    people: People,
+    streams: Streams,
     file: Option<&str>,
     exclusive: bool,
 ) -> Result<Vec<DirectoryChange>, u8>
@@ -58,25 +58,25 @@ where
     let Some(file) = file else {
         return Ok(Vec::new(rt.alloc()));
     };
-    let text = text_of(rt, people, file)?;
+    let text = text_of(rt, streams, file)?;
     match read_directory_table(rt.alloc(), exclusive, &text) {
         Ok(changes) => Ok(changes),
-        Err(fault) => Err(refuse(rt, people, file, &text, fault)),
+        Err(fault) => Err(refuse(rt, streams, file, &text, fault)),
     }
 }
 
 /// Reports why a table can't be read, with the row, the column and the words of the cell, and returns the exit status.
-fn refuse<R: Eprint>(rt: &R, people: People, file: &str, text: &[u8], fault: TableFault) -> u8 {
+fn refuse<R: Eprint>(rt: &R, streams: Streams, file: &str, text: &[u8], fault: TableFault) -> u8 {
     match cell_at(text, fault) {
         Some(cell) => {
             let Cell { row, column, words } = cell;
             complain(
                 rt,
-                people,
+                streams,
                 format_args!("{file}: {fault}: row '{row}', column '{column}': '{words}'"),
             );
         }
-        None => complain(rt, people, format_args!("{file}: {fault}")),
+        None => complain(rt, streams, format_args!("{file}: {fault}")),
     }
     REFUSED
 }

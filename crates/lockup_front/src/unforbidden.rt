@@ -1,14 +1,14 @@
 //! A litmus test that forbids nothing.
 
-use super::people::{People, complain};
+use super::streams::{Streams, complain};
 use litmus_text::Statements;
 
 /// Reports on standard error that a test that was run forbids nothing, so that none of its outcomes could be forbidden.
-pub fn tell_unforbidden<R: Eprint>(rt: &R, people: People, input: &[u8]) {
+pub fn tell_unforbidden<R: Eprint>(rt: &R, streams: Streams, input: &[u8]) {
     if !forbids(input) {
         complain(
             rt,
-            people,
+            streams,
             "nothing is forbidden: the test has no line 'forbid'",
         );
     }

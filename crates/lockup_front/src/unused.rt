@@ -1,6 +1,6 @@
 //! Lines of a text of programs that change nothing of its run, and settings of a sweep that change nothing of its runs.
 
-use super::people::{People, complain};
+use super::streams::{Streams, complain};
 use litmus_text::{Lines, Words, parse_number, value_named};
 use program_sweep::Setting;
 use program_text::Limits;
@@ -23,7 +23,7 @@ const SINGLE: &str = "each core has one access under way";
 
 /// Reports on standard error which lines of a text that was run changed nothing: those that bound what waits of a core,
 /// where it has one access under way at a time, and an `outstanding` or a `pace` that another given number replaced.
-pub fn tell_unused<R: Eprint>(rt: &R, people: People, input: &[u8], given: Limits) {
+pub fn tell_unused<R: Eprint>(rt: &R, streams: Streams, input: &[u8], given: Limits) {
     let is_single = is_single(input, given.outstanding);
     let mut number: u64 = 0;
     for line in Lines::of(input) {
@@ -37,17 +37,17 @@ pub fn tell_unused<R: Eprint>(rt: &R, people: People, input: &[u8], given: Limit
         if given.is_limited() && value_named(&OUTSTANDING, word).is_some() {
             tell(
                 rt,
-                people,
+                streams,
                 number,
                 "outstanding",
                 "--outstanding stands in its place",
             );
         }
         if given.is_paced() && value_named(&PACE, word).is_some() {
-            tell(rt, people, number, "pace", "--pace stands in its place");
+            tell(rt, streams, number, "pace", "--pace stands in its place");
         }
         if is_single {
-            tell_bound(rt, people, number, word);
+            tell_bound(rt, streams, number, word);
         }
     }
 }
@@ -56,7 +56,7 @@ pub fn tell_unused<R: Eprint>(rt: &R, people: People, input: &[u8], given: Limit
 /// `outstanding`, each line may change something, and nothing is reported.
 pub fn tell_unused_settings<R: Eprint>(
     rt: &R,
-    people: People,
+    streams: Streams,
     input: &[u8],
     settings: &[Setting<'_>],
     given: Limits,
@@ -64,14 +64,14 @@ pub fn tell_unused_settings<R: Eprint>(
     if varies_outstanding(settings) {
         return;
     }
-    tell_unused(rt, people, input, given);
+    tell_unused(rt, streams, input, given);
     if !is_single(input, given.outstanding) {
         return;
     }
     for setting in settings {
         let name = setting.name;
         if value_named(&BOUNDS, name.as_bytes()).is_some() {
-            tell_setting(rt, people, name);
+            tell_setting(rt, streams, name);
         }
     }
 }
@@ -80,24 +80,24 @@ fn varies_outstanding(settings: &[Setting<'_>]) -> bool {
     settings.iter().any(|setting| value_named(&OUTSTANDING, setting.name.as_bytes()).is_some())
 }
 
-fn tell_bound<R: Eprint>(rt: &R, people: People, number: u64, word: &[u8]) {
+fn tell_bound<R: Eprint>(rt: &R, streams: Streams, number: u64, word: &[u8]) {
     if let Some(name) = value_named(&BOUNDS, word) {
-        tell(rt, people, number, name, SINGLE);
+        tell(rt, streams, number, name, SINGLE);
     }
 }
 
-fn tell_setting<R: Eprint>(rt: &R, people: People, name: &str) {
+fn tell_setting<R: Eprint>(rt: &R, streams: Streams, name: &str) {
     complain(
         rt,
-        people,
+        streams,
         format_args!("--set {name} changes nothing: {SINGLE}"),
     );
 }
 
-fn tell<R: Eprint>(rt: &R, people: People, number: u64, name: &str, why: &str) {
+fn tell<R: Eprint>(rt: &R, streams: Streams, number: u64, name: &str, why: &str) {
     complain(
         rt,
-        people,
+        streams,
         format_args!("line {number}: {name} changes nothing: {why}"),
     );
 }

@@ -1,7 +1,7 @@
 //! What changed cells of the tables break on one line of memory.
 
 use super::files::text_of;
-use super::people::{People, REFUSED, complain, end, fail};
+use super::streams::{REFUSED, Streams, complain, fail};
 use super::table_files::read_tables;
 use super::what_drawn::diagram_of;
 use super::what_page::write_page;
@@ -15,7 +15,7 @@ use murphi_trace::{Rule, rule_told_by};
 use slice_queues::Pick;
 use std::alloc::Global;
 use std::fmt;
-use std::io::{self, BufWriter, Write};
+use std::io::Write;
 use std::rt::Files;
 use what_if::{
     Answer, Effort, Line, Promise, Step, Told, Tried, replay, what_if, write_told, write_told_json,
@@ -33,28 +33,34 @@ struct Found {
     tried: Option<Tried>,
 }
 
-/// Plays a line under the tables in these files, and prints what broke. Returns the exit status.
-pub fn print_what_breaks<R>(rt: &R, people: People, args: WhatIfArgs<'_>) -> u8
+/// Plays a line under the tables in these files, and writes what broke. Returns the exit status.
+pub fn write_what_breaks<R, W>(
+    rt: &R,
+    streams: Streams,
+    args: WhatIfArgs<'_>,
+    out: &mut W,
+) -> Result<u8, TextFault>
 where
-    R: Files + Input + AllocGlobal + Print + Eprint,
+    R: Files + Input + AllocGlobal + Eprint,
+    W: Write,
 {
-    let tables = match read_tables(rt, people, args.tables, args.exclusive) {
+    let tables = match read_tables(rt, streams, args.tables, args.exclusive) {
         Ok(tables) => tables,
-        Err(status) => return status,
+        Err(status) => return Ok(status),
     };
     let found = match args.trace {
-        Some(file) => replayed(rt, people, &tables, args.cores, file),
-        None => searched(rt, people, &tables, args),
+        Some(file) => replayed(rt, streams, &tables, args.cores, file),
+        None => searched(rt, streams, &tables, args),
     };
     match found {
-        Ok(found) => end(rt, people, print(rt, &tables, &found, args.form)),
-        Err(status) => status,
+        Ok(found) => write(rt.alloc(), &tables, &found, args.form, out),
+        Err(status) => Ok(status),
     }
 }
 
 fn searched<R: AllocGlobal + Eprint>(
     rt: &R,
-    people: People,
+    streams: Streams,
     tables: &Tables,
     args: WhatIfArgs<'_>,
 ) -> Result<Found, u8> {
@@ -77,32 +83,38 @@ fn searched<R: AllocGlobal + Eprint>(
             broken: None,
             tried: Some(tried),
         }),
-        Err(_) => Err(fail(rt, people, TextFault::NoMemory)),
+        Err(_) => Err(fail(rt, streams, TextFault::NoMemory)),
     }
 }
 
 /// Takes the steps of a trace. At Err, the error was reported, and this is the exit status.
-fn replayed<R>(rt: &R, people: People, tables: &Tables, cores: u64, file: &str) -> Result<Found, u8>
+fn replayed<R>(
+    rt: &R,
+    streams: Streams,
+    tables: &Tables,
+    cores: u64,
+    file: &str,
+) -> Result<Found, u8>
 where
     R: Files + Input + AllocGlobal + Eprint,
 {
-    let text = text_of(rt, people, file)?;
+    let text = text_of(rt, streams, file)?;
     let mut steps = match steps_of(rt, &text) {
-        Ok(steps) if steps.is_empty() => return Err(fail(rt, people, LineFault::NotATrace.at(1))),
+        Ok(steps) if steps.is_empty() => return Err(fail(rt, streams, LineFault::NotATrace.at(1))),
         Ok(steps) => steps,
-        Err(fault) => return Err(fail(rt, people, fault)),
+        Err(fault) => return Err(fail(rt, streams, fault)),
     };
     let cores = cores_of(&steps, cores);
     if let Some(number) = first_that_waits(tables, cores, &steps) {
         complain(
             rt,
-            people,
+            streams,
             format_args!("{file}: rule {number} can't happen under these tables"),
         );
         return Err(REFUSED);
     }
     if let Err(error) = add_last(tables, cores, &mut steps) {
-        return Err(fail(rt, people, error));
+        return Err(fail(rt, streams, error));
     }
     Ok(Found {
         broken: replay(tables, cores, &steps),
@@ -209,28 +221,21 @@ fn first_that_waits(tables: &Tables, cores: u8, steps: &[Step]) -> Option<usize>
     None
 }
 
-fn print<R: AllocGlobal + Print>(
-    rt: &R,
+fn write<W: Write>(
+    alloc: Global,
     tables: &Tables,
     found: &Found,
     form: WhatIfForm,
+    out: &mut W,
 ) -> Result<u8, TextFault> {
-    let Ok(mut out) = BufWriter::new(rt.alloc(), io::writer(rt)) else {
-        return Err(TextFault::NoMemory);
-    };
     let told = Told {
         cores: found.cores,
         steps: &found.steps,
         broken: found.broken,
         tried: found.tried,
     };
-    let mut text = TextWriter { out: &mut out };
-    let written = write_found(rt.alloc(), tables, told, form, &mut text);
-    match (written, out.flush()) {
-        (Ok(()), Ok(())) => Ok(status_of(found)),
-        (Err(fault), _) => Err(fault),
-        (Ok(()), Err(_)) => Err(TextFault::CannotWrite),
-    }
+    write_found(alloc, tables, told, form, &mut TextWriter { out })?;
+    Ok(status_of(found))
 }
 
 fn write_found<W: fmt::Write>(

@@ -1,19 +1,19 @@
 //! The programs of a workload.
 
-use super::people::{People, complain};
+use super::streams::{Streams, complain};
 use litmus_command_line::GenerateArgs;
 use program_text::{GenerateFault, Size, Workload, write_workload};
 use std::io::{self, BufWriter, Write};
 
 /// Prints the programs of a workload, and returns the exit status.
-pub fn print_workload<R>(rt: &R, people: People, args: GenerateArgs<'_>) -> u8
+pub fn print_workload<R>(rt: &R, streams: Streams, args: GenerateArgs<'_>) -> u8
 where
     R: AllocGlobal + Print + Eprint,
 {
     match print(rt, args) {
         Ok(()) => 0,
         Err(fault) => {
-            complain(rt, people, fault);
+            complain(rt, streams, fault);
             fault.status()
         }
     }

@@ -1,2 +1,2 @@
-pub mod CallLemmas
+pub mod MadeLemmas
 pub mod HandleSteps

@@ -45,6 +45,10 @@ abbrev pub OnMachine : (Simulator → Simulator → Type 0) → Type 0 → Optio
 OnMachine Made Nothing (Some (helds.Machine old)) (Some (helds.Machine new)) = Made old new
 OnMachine Made Nothing old new = Nothing × (new ≡ old)
 
+abbrev pub HasNoMachine : Held → Type 0
+HasNoMachine (helds.Machine simulator) = ⊥
+HasNoMachine held = Unit {0}
+
 -- .. and looks at it alone
 abbrev pub AtMachine : (Simulator → Type 0) → Type 0 → Option Held → Type 0
 AtMachine Seen Nothing (Some (helds.Machine simulator)) = Seen simulator

@@ -1,5 +1,5 @@
 -- The numbers of the cells of the tables that calls would meet.
-use Rattle.std.specs.Prelude.{◌≡◌, ℕ, Option, length, option_map, unwrap_or}
+use Rattle.std.specs.Prelude.{◌≡◌, ℕ, Option, option_map, unwrap_or}
 use Rattle.address_map.specs.declared.config.Config.{Config}
 use Rattle.litmus_text.specs.declared.command.Command.{Command}
 use Rattle.litmus_text.specs.declared.command.Command.TheVariants as commands

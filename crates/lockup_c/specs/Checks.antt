@@ -96,7 +96,10 @@ pub record IsJudged (judge : TraceJudge) (numbers : VerdictNumbers) : Type 0 whe
       → IsVerdict (initially init) entries verdict
   pub said : numbers ≡ verdict_numbers verdict
 
+abbrev pub no_verdict : VerdictNumbers
+no_verdict = record { verdict = 0; entry = 0 }
+
 -- what the entries come to so far
 abbrev pub ShowsVerdict : ℕ → VerdictNumbers → Option Held → Type 0
 ShowsVerdict code numbers (Some (helds.Trace judge)) = (code ≡ 0) × IsJudged judge numbers
-ShowsVerdict code numbers held = (code ≡ 1) × (numbers ≡ record { verdict = 0; entry = 0 })
+ShowsVerdict code numbers held = (code ≡ 1) × (numbers ≡ no_verdict)

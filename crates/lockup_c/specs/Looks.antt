@@ -87,8 +87,11 @@ abbrev pub ShowsQuiet : ℕ → ℕ → Option Held → Type 0
 ShowsQuiet code number =
     AtMachine (λ simulator. (code ≡ 0) × IsQuietNumber number simulator) ((code ≡ 1) × (number ≡ 0))
 
+abbrev pub no_word : WordNumbers
+no_word = record { quiet = 0; value = 0 }
+
 abbrev pub word_numbers : Option ℕ → WordNumbers
-word_numbers None = record { quiet = 0; value = 0 }
+word_numbers None = no_word
 word_numbers (Some value) = record { quiet = 1; value = value }
 
 pub record IsWord (word : WordAddr) (numbers : WordNumbers) (simulator : Simulator) : Type 0 where
@@ -101,8 +104,8 @@ ShowsWord word code numbers =
     AtMachine
     (λ simulator. IfNamed (word_named (config_of simulator) word)
     (λ named. (code ≡ 0) × IsWord named numbers simulator)
-    ((code ≡ 2) × (numbers ≡ word_numbers None)))
-    ((code ≡ 1) × (numbers ≡ word_numbers None))
+    ((code ≡ 2) × (numbers ≡ no_word)))
+    ((code ≡ 1) × (numbers ≡ no_word))
 
 -- ---- the log of a slice
 

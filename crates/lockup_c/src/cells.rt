@@ -1,10 +1,11 @@
 //! Which cell of the protocol's tables a call would meet.
 ghost use Rattle.std.specs.Prelude.{◌≡◌, IfSome, Option, Some, unwrap_or};
+ghost use Rattle.lockup_c.specs.Answer.{code_of, shown_of};
 ghost use Rattle.lockup_c.specs.Cells.{ShowsCell, command_named, no_cell};
 ghost use Rattle.lockup_c.specs.declared.cells.Asked.TheVariants as askeds;
 ghost use Rattle.simulator.specs.Cells.{HasItsCore};
 
-use super::codes::{DONE, NO_MACHINE, OUT_OF_RANGE};
+use super::answer::{Fault, show};
 use super::handle::{Handle, put, take};
 use super::held::Held;
 use super::names::{copy_named, pick_named, request_named};
@@ -108,32 +109,20 @@ fn show_cell(handle: &mut Handle, alloc: Global, asked: Asked, cell: &mut u64) -
     ensures seen { ShowsCell asked result cell.new handle.old.value }
     ensures kept { handle.new.value ≡ handle.old.value }
 {
-    match take(handle, alloc) {
-        Some(held) => {
-            let code = cell_met(&held, asked, cell);
-            put(handle, held);
-            code
-        }
-        None => {
-            *cell = NO_CELL;
-            NO_MACHINE
-        }
-    }
+    let Some(held) = take(handle, alloc) else {
+        return show(Err(Fault::NoMachine), NO_CELL, cell);
+    };
+    let shown = cell_met(&held, asked);
+    put(handle, held);
+    show(shown, NO_CELL, cell)
 }
 
-fn cell_met(held: &Held, asked: Asked, cell: &mut u64) -> u32
-    ensures { ShowsCell asked result cell.new (Some held.now) }
+fn cell_met(held: &Held, asked: Asked) -> Result<u64, Fault>
+    ensures { ShowsCell asked (code_of result) (shown_of no_cell result) (Some held.now) }
 {
-    let Held::Machine(simulator) = held else {
-        *cell = NO_CELL;
-        return NO_MACHINE;
-    };
-    let Some(command) = command_named(simulator.config(), asked) else {
-        *cell = NO_CELL;
-        return OUT_OF_RANGE;
-    };
-    *cell = shown_number(number_of(simulator.cell(command)));
-    DONE
+    let simulator = held.machine()?;
+    let command = command_named(simulator.config(), asked).ok_or(Fault::OutOfRange)?;
+    Ok(shown_number(number_of(simulator.cell(command))))
 }
 
 fn shown_number(number: Option<u8>) -> u64

@@ -1,10 +1,12 @@
 //! A trace that is judged as it comes.
 ghost use Rattle.std.specs.Prelude.{◌≡◌, ◌≢◌, ◌↔◌, IfSome, IsTrue, None, Some};
+ghost use Rattle.lockup_c.specs.Answer.{code_of, shown_of};
 ghost use Rattle.lockup_c.specs.Checks.{AddsEntry, AddsWord, CanBegin, HasNewTrace, IsNoBeginning, IsNoEntry};
-ghost use Rattle.lockup_c.specs.Checks.{NamesWord, ShowsVerdict, TakesEntry, entry_named, reason_number, verdict_numbers};
+ghost use Rattle.lockup_c.specs.Checks.{NamesWord, ShowsVerdict, TakesEntry, entry_named, no_verdict, reason_number, verdict_numbers};
 ghost use Rattle.lockup_c.specs.Made.{Frees};
 ghost use Rattle.trace_check.specs.Judge.{IsNameable};
 
+use super::answer::{Fault, show};
 use super::codes::{DONE, IN_USE, NO_MACHINE, NO_MEMORY, OUT_OF_RANGE};
 use super::handle::{Handle, put, take};
 use super::held::Held;
@@ -173,28 +175,21 @@ pub extern "C" fn lockup_check_verdict(
     ensures seen { ShowsVerdict result verdict.new handle.old.value }
     ensures kept { handle.new.value ≡ handle.old.value }
 {
-    match take(handle, alloc) {
-        Some(held) => {
-            let code = show_verdict(&held, verdict);
-            put(handle, held);
-            code
-        }
-        None => {
-            *verdict = NO_VERDICT;
-            NO_MACHINE
-        }
-    }
+    let Some(held) = take(handle, alloc) else {
+        return show(Err(Fault::NoMachine), NO_VERDICT, verdict);
+    };
+    let shown = show_verdict(&held);
+    put(handle, held);
+    show(shown, NO_VERDICT, verdict)
 }
 
-fn show_verdict(held: &Held, verdict: &mut VerdictNumbers) -> u32
-    ensures { ShowsVerdict result verdict.new (Some held.now) }
+fn show_verdict(held: &Held) -> Result<VerdictNumbers, Fault>
+    ensures { ShowsVerdict (code_of result) (shown_of no_verdict result) (Some held.now) }
 {
     let Held::Trace(judge) = held else {
-        *verdict = NO_VERDICT;
-        return NO_MACHINE;
+        return Err(Fault::NoMachine);
     };
-    *verdict = verdict_numbers(judge.verdict());
-    DONE
+    Ok(verdict_numbers(judge.verdict()))
 }
 
 fn verdict_numbers(verdict: Verdict) -> VerdictNumbers

@@ -1,8 +1,10 @@
 //! What slices have counted.
 ghost use Rattle.std.specs.Prelude.{◌≡◌, Some, slice_get};
-ghost use Rattle.lockup_c.specs.Counts.{ShowsCoreCounts, ShowsSliceCounts, core_counts, slice_counts};
+ghost use Rattle.lockup_c.specs.Answer.{code_of, shown_of};
+ghost use Rattle.lockup_c.specs.Counts.{ShowsCoreCounts, ShowsSliceCounts, core_counts, no_core_counts};
+ghost use Rattle.lockup_c.specs.Counts.{no_slice_counts, slice_counts};
 
-use super::codes::{DONE, NO_MACHINE, OUT_OF_RANGE};
+use super::answer::{Fault, show};
 use super::handle::{Handle, put, take};
 use super::held::Held;
 use super::names::{file_named, slice_named};
@@ -40,32 +42,21 @@ pub extern "C" fn lockup_counts_of_core(
     ensures seen { ShowsCoreCounts core slice result counts.new handle.old.value }
     ensures kept { handle.new.value ≡ handle.old.value }
 {
-    match take(handle, alloc) {
-        Some(held) => {
-            let code = counts_of_core(&held, core, slice, counts);
-            put(handle, held);
-            code
-        }
-        None => {
-            *counts = NO_CORE_COUNTS;
-            NO_MACHINE
-        }
-    }
+    let Some(held) = take(handle, alloc) else {
+        return show(Err(Fault::NoMachine), NO_CORE_COUNTS, counts);
+    };
+    let shown = counts_of_core(&held, core, slice);
+    put(handle, held);
+    show(shown, NO_CORE_COUNTS, counts)
 }
 
-fn counts_of_core(held: &Held, core: u64, slice: u64, counts: &mut CoreCounts) -> u32
-    ensures { ShowsCoreCounts core slice result counts.new (Some held.now) }
+fn counts_of_core(held: &Held, core: u64, slice: u64) -> Result<CoreCounts, Fault>
+    ensures { ShowsCoreCounts core slice
+        (code_of result) (shown_of no_core_counts result) (Some held.now) }
 {
-    let Held::Machine(simulator) = held else {
-        *counts = NO_CORE_COUNTS;
-        return NO_MACHINE;
-    };
-    let Some((core, slice)) = file_named(simulator.config(), core, slice) else {
-        *counts = NO_CORE_COUNTS;
-        return OUT_OF_RANGE;
-    };
-    *counts = core_counts(simulator.stats(slice), core);
-    DONE
+    let simulator = held.machine()?;
+    let (core, slice) = file_named(simulator.config(), core, slice).ok_or(Fault::OutOfRange)?;
+    Ok(core_counts(simulator.stats(slice), core))
 }
 
 fn core_counts(stats: &Stats, core: CoreId) -> CoreCounts
@@ -98,32 +89,20 @@ pub extern "C" fn lockup_counts_of_messages(
     ensures seen { ShowsSliceCounts slice result counts.new handle.old.value }
     ensures kept { handle.new.value ≡ handle.old.value }
 {
-    match take(handle, alloc) {
-        Some(held) => {
-            let code = counts_of_messages(&held, slice, counts);
-            put(handle, held);
-            code
-        }
-        None => {
-            *counts = NO_SLICE_COUNTS;
-            NO_MACHINE
-        }
-    }
+    let Some(held) = take(handle, alloc) else {
+        return show(Err(Fault::NoMachine), NO_SLICE_COUNTS, counts);
+    };
+    let shown = counts_of_messages(&held, slice);
+    put(handle, held);
+    show(shown, NO_SLICE_COUNTS, counts)
 }
 
-fn counts_of_messages(held: &Held, slice: u64, counts: &mut SliceCounts) -> u32
-    ensures { ShowsSliceCounts slice result counts.new (Some held.now) }
+fn counts_of_messages(held: &Held, slice: u64) -> Result<SliceCounts, Fault>
+    ensures { ShowsSliceCounts slice (code_of result) (shown_of no_slice_counts result) (Some held.now) }
 {
-    let Held::Machine(simulator) = held else {
-        *counts = NO_SLICE_COUNTS;
-        return NO_MACHINE;
-    };
-    let Some(slice) = slice_named(simulator.config(), slice) else {
-        *counts = NO_SLICE_COUNTS;
-        return OUT_OF_RANGE;
-    };
-    *counts = slice_counts(simulator.stats(slice).messages());
-    DONE
+    let simulator = held.machine()?;
+    let slice = slice_named(simulator.config(), slice).ok_or(Fault::OutOfRange)?;
+    Ok(slice_counts(simulator.stats(slice).messages()))
 }
 
 fn slice_counts(counts: &MessageCounts) -> SliceCounts

@@ -1,10 +1,12 @@
 //! Histories that are judged: what each core asked for and the replies to it, without an order between cores.
 ghost use Rattle.std.specs.Prelude.{◌≡◌, ◌≢◌, ◌↔◌, IfOk, IsTrue, None, Some};
+ghost use Rattle.lockup_c.specs.Answer.{code_of, shown_of};
 ghost use Rattle.lockup_c.specs.Judges.{AddsAccess, CanGive, GivesValue, GivesWord, HasNewHistories, IsJudgedAs};
 ghost use Rattle.lockup_c.specs.Judges.{IsNoAccess, IsNoGift, Judges, ShowsReason, TakesAccess, access_named};
-ghost use Rattle.lockup_c.specs.Judges.{judgement_numbers, reply_named};
+ghost use Rattle.lockup_c.specs.Judges.{judgement_numbers, no_judgement, no_reason, reply_named};
 ghost use Rattle.lockup_c.specs.Made.{Frees};
 
+use super::answer::{Fault, show};
 use super::codes::{DONE, IN_USE, NO_MACHINE, NO_MEMORY, OUT_OF_RANGE};
 use super::contradiction::reasons_of;
 use super::handle::{Handle, put, take};
@@ -195,37 +197,23 @@ pub extern "C" fn lockup_judge_verdict(
 ) -> u32
     ensures { Judges result judgement.new handle.old.value handle.new.value }
 {
-    match take(handle, alloc) {
-        Some(mut held) => {
-            let code = judge_held(&mut held, alloc, limit, judgement);
-            put(handle, held);
-            code
-        }
-        None => {
-            *judgement = NO_JUDGEMENT;
-            NO_MACHINE
-        }
-    }
+    let Some(mut held) = take(handle, alloc) else {
+        return show(Err(Fault::NoMachine), NO_JUDGEMENT, judgement);
+    };
+    let shown = judge_held(&mut held, alloc, limit);
+    put(handle, held);
+    show(shown, NO_JUDGEMENT, judgement)
 }
 
-fn judge_held(held: &mut Held, alloc: Global, limit: u64, judgement: &mut JudgementNumbers) -> u32
-    ensures { Judges result judgement.new (Some held.old) (Some held.new) }
+fn judge_held(held: &mut Held, alloc: Global, limit: u64) -> Result<JudgementNumbers, Fault>
+    ensures { Judges (code_of result) (shown_of no_judgement result) (Some held.old) (Some held.new) }
 {
     let Held::Histories(judged) = held else {
-        *judgement = NO_JUDGEMENT;
-        return NO_MACHINE;
+        return Err(Fault::NoMachine);
     };
-    match judged_as(alloc, &judged.histories, limit) {
-        Ok((numbers, reasons)) => {
-            *judgement = numbers;
-            judged.reasons = reasons;
-            DONE
-        }
-        Err(_) => {
-            *judgement = NO_JUDGEMENT;
-            NO_MEMORY
-        }
-    }
+    let (numbers, reasons) = judged_as(alloc, &judged.histories, limit)?;
+    judged.reasons = reasons;
+    Ok(numbers)
 }
 
 fn judged_as(
@@ -266,35 +254,23 @@ pub extern "C" fn lockup_judge_reason(
     ensures seen { ShowsReason nth result reason.new handle.old.value }
     ensures kept { handle.new.value ≡ handle.old.value }
 {
-    match take(handle, alloc) {
-        Some(held) => {
-            let code = show_reason(&held, nth, reason);
-            put(handle, held);
-            code
-        }
-        None => {
-            *reason = NO_REASON;
-            NO_MACHINE
-        }
-    }
+    let Some(held) = take(handle, alloc) else {
+        return show(Err(Fault::NoMachine), NO_REASON, reason);
+    };
+    let shown = show_reason(&held, nth);
+    put(handle, held);
+    show(shown, NO_REASON, reason)
 }
 
-fn show_reason(held: &Held, nth: u64, reason: &mut ReasonNumbers) -> u32
-    ensures { ShowsReason nth result reason.new (Some held.now) }
+fn show_reason(held: &Held, nth: u64) -> Result<ReasonNumbers, Fault>
+    ensures { ShowsReason nth (code_of result) (shown_of no_reason result) (Some held.now) }
 {
     let Held::Histories(judged) = held else {
-        *reason = NO_REASON;
-        return NO_MACHINE;
+        return Err(Fault::NoMachine);
     };
     match judged.reasons.get(nth as usize) {
-        Some(found) => {
-            *reason = *found;
-            DONE
-        }
-        None => {
-            *reason = NO_REASON;
-            OUT_OF_RANGE
-        }
+        Some(reason) => Ok(*reason),
+        None => Err(Fault::OutOfRange),
     }
 }
 

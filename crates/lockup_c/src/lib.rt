@@ -14,6 +14,7 @@ pub use handle::Handle;
 pub use held::Held;
 pub use histories::JudgedHistories;
 
+mod answer;
 mod boxed_parts;
 mod cells;
 mod check;

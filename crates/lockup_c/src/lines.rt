@@ -1,10 +1,11 @@
 //! Which lines a core waits for, writes back, or has in a set.
-ghost use Rattle.std.specs.Prelude.{◌≡◌, Some, length, slice_get};
+ghost use Rattle.std.specs.Prelude.{◌≡◌, Some, slice_get};
+ghost use Rattle.lockup_c.specs.Answer.{code_of, shown_of};
 ghost use Rattle.lockup_c.specs.Calls.{SaysFound};
 ghost use Rattle.lockup_c.specs.Lines.{CountsLines, CountsWays, ShowsLine, ShowsWay};
 ghost use Rattle.slice_core_exec.specs.declared.core_lines.CoreLines.TheVariants as core_lines;
 
-use super::codes::{DONE, NO_MACHINE, NO_MEMORY, OUT_OF_RANGE};
+use super::answer::{Fault, show};
 use super::handle::{Handle, put, take};
 use super::held::Held;
 use super::names::{copy_named, file_named};
@@ -53,51 +54,21 @@ fn count_lines(
     ensures seen { CountsLines which core slice result count.new handle.old.value }
     ensures kept { handle.new.value ≡ handle.old.value }
 {
-    match take(handle, alloc) {
-        Some(held) => {
-            let code = lines(&held, alloc, core, slice, which, count);
-            put(handle, held);
-            code
-        }
-        None => {
-            *count = 0;
-            NO_MACHINE
-        }
-    }
+    let Some(held) = take(handle, alloc) else {
+        return show(Err(Fault::NoMachine), 0, count);
+    };
+    let shown = lines(&held, alloc, core, slice, which);
+    put(handle, held);
+    show(shown, 0, count)
 }
 
-fn lines(
-    held: &Held,
-    alloc: Global,
-    core: u64,
-    slice: u64,
-    which: CoreLines,
-    count: &mut u64,
-) -> u32
-    ensures { CountsLines which core slice result count.new (Some held.now) }
+fn lines(held: &Held, alloc: Global, core: u64, slice: u64, which: CoreLines) -> Result<u64, Fault>
+    ensures { CountsLines which core slice (code_of result) (shown_of 0 result) (Some held.now) }
 {
-    let Held::Machine(simulator) = held else {
-        *count = 0;
-        return NO_MACHINE;
-    };
-    let Some((core, slice)) = file_named(simulator.config(), core, slice) else {
-        *count = 0;
-        return OUT_OF_RANGE;
-    };
-    match simulator.core_lines(alloc, core, slice, which) {
-        Ok(lines) => show_count(lines, count),
-        Err(_) => {
-            *count = 0;
-            NO_MEMORY
-        }
-    }
-}
-
-fn show_count(lines: Vec<LineAddr>, count: &mut u64) -> u32
-    ensures { (result ≡ 0) × (count.new ≡ length lines.items) }
-{
-    *count = lines.len() as u64;
-    DONE
+    let simulator = held.machine()?;
+    let (core, slice) = file_named(simulator.config(), core, slice).ok_or(Fault::OutOfRange)?;
+    let lines = simulator.core_lines(alloc, core, slice, which)?;
+    Ok(lines.len() as u64)
 }
 
 /// Shows one of the lines that a core is writing back in a slice.
@@ -113,17 +84,12 @@ pub extern "C" fn lockup_writeback_at(
     ensures seen { ShowsLine core_lines.Leaving core slice nth result line.new handle.old.value }
     ensures kept { handle.new.value ≡ handle.old.value }
 {
-    match take(handle, alloc) {
-        Some(held) => {
-            let code = line_at(&held, alloc, core, slice, CoreLines::Leaving, nth, line);
-            put(handle, held);
-            code
-        }
-        None => {
-            *line = 0;
-            NO_MACHINE
-        }
-    }
+    let Some(held) = take(handle, alloc) else {
+        return show(Err(Fault::NoMachine), 0, line);
+    };
+    let shown = line_at(&held, alloc, core, slice, CoreLines::Leaving, nth);
+    put(handle, held);
+    show(shown, 0, line)
 }
 
 fn line_at(
@@ -133,39 +99,22 @@ fn line_at(
     slice: u64,
     which: CoreLines,
     nth: u64,
-    line: &mut u64,
-) -> u32
-    ensures { ShowsLine which core slice nth result line.new (Some held.now) }
+) -> Result<u64, Fault>
+    ensures { ShowsLine which core slice nth (code_of result) (shown_of 0 result) (Some held.now) }
 {
-    let Held::Machine(simulator) = held else {
-        *line = 0;
-        return NO_MACHINE;
-    };
-    let Some((core, slice)) = file_named(simulator.config(), core, slice) else {
-        *line = 0;
-        return OUT_OF_RANGE;
-    };
-    match simulator.core_lines(alloc, core, slice, which) {
-        Ok(lines) => show_line(lines, nth, line),
-        Err(_) => {
-            *line = 0;
-            NO_MEMORY
-        }
-    }
+    let simulator = held.machine()?;
+    let (core, slice) = file_named(simulator.config(), core, slice).ok_or(Fault::OutOfRange)?;
+    let lines = simulator.core_lines(alloc, core, slice, which)?;
+    line_of(&lines, nth)
 }
 
-fn show_line(lines: Vec<LineAddr>, nth: u64, line: &mut u64) -> u32
-    ensures { SaysFound (slice_get lines.items nth) (λ found. found.0) 0 result line.new }
+fn line_of(lines: &[LineAddr], nth: u64) -> Result<u64, Fault>
+    ensures { SaysFound (slice_get lines.now nth) (λ found. found.0) 0
+        (code_of result) (shown_of 0 result) }
 {
     match lines.get(nth as usize) {
-        Some(found) => {
-            *line = found.0;
-            DONE
-        }
-        None => {
-            *line = 0;
-            OUT_OF_RANGE
-        }
+        Some(line) => Ok(line.0),
+        None => Err(Fault::OutOfRange),
     }
 }
 
@@ -181,37 +130,21 @@ pub extern "C" fn lockup_ways(
     ensures seen { CountsWays core line result count.new handle.old.value }
     ensures kept { handle.new.value ≡ handle.old.value }
 {
-    match take(handle, alloc) {
-        Some(held) => {
-            let code = ways(&held, alloc, core, line, count);
-            put(handle, held);
-            code
-        }
-        None => {
-            *count = 0;
-            NO_MACHINE
-        }
-    }
+    let Some(held) = take(handle, alloc) else {
+        return show(Err(Fault::NoMachine), 0, count);
+    };
+    let shown = ways(&held, alloc, core, line);
+    put(handle, held);
+    show(shown, 0, count)
 }
 
-fn ways(held: &Held, alloc: Global, core: u64, line: u64, count: &mut u64) -> u32
-    ensures { CountsWays core line result count.new (Some held.now) }
+fn ways(held: &Held, alloc: Global, core: u64, line: u64) -> Result<u64, Fault>
+    ensures { CountsWays core line (code_of result) (shown_of 0 result) (Some held.now) }
 {
-    let Held::Machine(simulator) = held else {
-        *count = 0;
-        return NO_MACHINE;
-    };
-    let Some((core, line)) = copy_named(simulator.config(), core, line) else {
-        *count = 0;
-        return OUT_OF_RANGE;
-    };
-    match simulator.set_lines(alloc, core, line) {
-        Ok(lines) => show_count(lines, count),
-        Err(_) => {
-            *count = 0;
-            NO_MEMORY
-        }
-    }
+    let simulator = held.machine()?;
+    let (core, line) = copy_named(simulator.config(), core, line).ok_or(Fault::OutOfRange)?;
+    let lines = simulator.set_lines(alloc, core, line)?;
+    Ok(lines.len() as u64)
 }
 
 /// Shows one of the lines that a core has in the set of a line.
@@ -227,35 +160,19 @@ pub extern "C" fn lockup_way_at(
     ensures seen { ShowsWay core line nth result found.new handle.old.value }
     ensures kept { handle.new.value ≡ handle.old.value }
 {
-    match take(handle, alloc) {
-        Some(held) => {
-            let code = way_at(&held, alloc, core, line, nth, found);
-            put(handle, held);
-            code
-        }
-        None => {
-            *found = 0;
-            NO_MACHINE
-        }
-    }
+    let Some(held) = take(handle, alloc) else {
+        return show(Err(Fault::NoMachine), 0, found);
+    };
+    let shown = way_at(&held, alloc, core, line, nth);
+    put(handle, held);
+    show(shown, 0, found)
 }
 
-fn way_at(held: &Held, alloc: Global, core: u64, line: u64, nth: u64, found: &mut u64) -> u32
-    ensures { ShowsWay core line nth result found.new (Some held.now) }
+fn way_at(held: &Held, alloc: Global, core: u64, line: u64, nth: u64) -> Result<u64, Fault>
+    ensures { ShowsWay core line nth (code_of result) (shown_of 0 result) (Some held.now) }
 {
-    let Held::Machine(simulator) = held else {
-        *found = 0;
-        return NO_MACHINE;
-    };
-    let Some((core, line)) = copy_named(simulator.config(), core, line) else {
-        *found = 0;
-        return OUT_OF_RANGE;
-    };
-    match simulator.set_lines(alloc, core, line) {
-        Ok(lines) => show_line(lines, nth, found),
-        Err(_) => {
-            *found = 0;
-            NO_MEMORY
-        }
-    }
+    let simulator = held.machine()?;
+    let (core, line) = copy_named(simulator.config(), core, line).ok_or(Fault::OutOfRange)?;
+    let lines = simulator.set_lines(alloc, core, line)?;
+    line_of(&lines, nth)
 }

@@ -1,10 +1,12 @@
 //! What there is.
 ghost use Rattle.std.specs.Prelude.{◌≡◌, None, Some};
+ghost use Rattle.lockup_c.specs.Answer.{code_of, shown_of};
 ghost use Rattle.lockup_c.specs.Looks.{ShowsCopy, ShowsDirectory, ShowsEntries, ShowsEntry, ShowsQuiet, ShowsWord};
-ghost use Rattle.lockup_c.specs.Looks.{copy_numbers, directory_numbers, entry_numbers, word_numbers};
+ghost use Rattle.lockup_c.specs.Looks.{copy_numbers, directory_numbers, entry_numbers, no_copy, no_directory};
+ghost use Rattle.lockup_c.specs.Looks.{no_entry, no_word, word_numbers};
 ghost use Rattle.lockup_c.specs.Number.{flag, op_number, operand_of, replacement_of};
 
-use super::codes::{DONE, NO_MACHINE, OUT_OF_RANGE};
+use super::answer::{Fault, show};
 use super::handle::{Handle, put, take};
 use super::held::Held;
 use super::names::{copy_named, line_named, slice_named, word_named};
@@ -54,32 +56,20 @@ pub extern "C" fn lockup_copy_at(
     ensures seen { ShowsCopy core line result copy.new handle.old.value }
     ensures kept { handle.new.value ≡ handle.old.value }
 {
-    match take(handle, alloc) {
-        Some(held) => {
-            let code = copy_at(&held, core, line, copy);
-            put(handle, held);
-            code
-        }
-        None => {
-            *copy = NO_COPY;
-            NO_MACHINE
-        }
-    }
+    let Some(held) = take(handle, alloc) else {
+        return show(Err(Fault::NoMachine), NO_COPY, copy);
+    };
+    let shown = copy_at(&held, core, line);
+    put(handle, held);
+    show(shown, NO_COPY, copy)
 }
 
-fn copy_at(held: &Held, core: u64, line: u64, copy: &mut CopyNumbers) -> u32
-    ensures { ShowsCopy core line result copy.new (Some held.now) }
+fn copy_at(held: &Held, core: u64, line: u64) -> Result<CopyNumbers, Fault>
+    ensures { ShowsCopy core line (code_of result) (shown_of no_copy result) (Some held.now) }
 {
-    let Held::Machine(simulator) = held else {
-        *copy = NO_COPY;
-        return NO_MACHINE;
-    };
-    let Some((core, line)) = copy_named(simulator.config(), core, line) else {
-        *copy = NO_COPY;
-        return OUT_OF_RANGE;
-    };
-    *copy = copy_numbers(simulator.copy(core, line));
-    DONE
+    let simulator = held.machine()?;
+    let (core, line) = copy_named(simulator.config(), core, line).ok_or(Fault::OutOfRange)?;
+    Ok(copy_numbers(simulator.copy(core, line)))
 }
 
 fn copy_numbers(copy: Option<CacheCopy>) -> CopyNumbers
@@ -110,32 +100,20 @@ pub extern "C" fn lockup_directory_at(
     ensures seen { ShowsDirectory line result directory.new handle.old.value }
     ensures kept { handle.new.value ≡ handle.old.value }
 {
-    match take(handle, alloc) {
-        Some(held) => {
-            let code = directory_at(&held, line, directory);
-            put(handle, held);
-            code
-        }
-        None => {
-            *directory = NO_DIRECTORY;
-            NO_MACHINE
-        }
-    }
+    let Some(held) = take(handle, alloc) else {
+        return show(Err(Fault::NoMachine), NO_DIRECTORY, directory);
+    };
+    let shown = directory_at(&held, line);
+    put(handle, held);
+    show(shown, NO_DIRECTORY, directory)
 }
 
-fn directory_at(held: &Held, line: u64, directory: &mut DirectoryNumbers) -> u32
-    ensures { ShowsDirectory line result directory.new (Some held.now) }
+fn directory_at(held: &Held, line: u64) -> Result<DirectoryNumbers, Fault>
+    ensures { ShowsDirectory line (code_of result) (shown_of no_directory result) (Some held.now) }
 {
-    let Held::Machine(simulator) = held else {
-        *directory = NO_DIRECTORY;
-        return NO_MACHINE;
-    };
-    let Some(line) = line_named(simulator.config(), line) else {
-        *directory = NO_DIRECTORY;
-        return OUT_OF_RANGE;
-    };
-    *directory = directory_numbers(simulator.line(line));
-    DONE
+    let simulator = held.machine()?;
+    let line = line_named(simulator.config(), line).ok_or(Fault::OutOfRange)?;
+    Ok(directory_numbers(simulator.line(line)))
 }
 
 fn directory_numbers(shown: Option<LineView>) -> DirectoryNumbers
@@ -161,28 +139,19 @@ pub extern "C" fn lockup_quiet(alloc: Global, handle: &mut Handle, quiet: &mut u
     ensures seen { ShowsQuiet result quiet.new handle.old.value }
     ensures kept { handle.new.value ≡ handle.old.value }
 {
-    match take(handle, alloc) {
-        Some(held) => {
-            let code = show_quiet(&held, quiet);
-            put(handle, held);
-            code
-        }
-        None => {
-            *quiet = 0;
-            NO_MACHINE
-        }
-    }
+    let Some(held) = take(handle, alloc) else {
+        return show(Err(Fault::NoMachine), 0, quiet);
+    };
+    let shown = show_quiet(&held);
+    put(handle, held);
+    show(shown, 0, quiet)
 }
 
-fn show_quiet(held: &Held, quiet: &mut u64) -> u32
-    ensures { ShowsQuiet result quiet.new (Some held.now) }
+fn show_quiet(held: &Held) -> Result<u64, Fault>
+    ensures { ShowsQuiet (code_of result) (shown_of 0 result) (Some held.now) }
 {
-    let Held::Machine(simulator) = held else {
-        *quiet = 0;
-        return NO_MACHINE;
-    };
-    *quiet = flag(simulator.is_quiet());
-    DONE
+    let simulator = held.machine()?;
+    Ok(flag(simulator.is_quiet()))
 }
 
 pub(crate) fn flag(is_so: bool) -> u64
@@ -202,32 +171,20 @@ pub extern "C" fn lockup_word_at(
     ensures seen { ShowsWord word result value.new handle.old.value }
     ensures kept { handle.new.value ≡ handle.old.value }
 {
-    match take(handle, alloc) {
-        Some(held) => {
-            let code = word_at(&held, word, value);
-            put(handle, held);
-            code
-        }
-        None => {
-            *value = NO_WORD;
-            NO_MACHINE
-        }
-    }
+    let Some(held) = take(handle, alloc) else {
+        return show(Err(Fault::NoMachine), NO_WORD, value);
+    };
+    let shown = word_at(&held, word);
+    put(handle, held);
+    show(shown, NO_WORD, value)
 }
 
-fn word_at(held: &Held, word: u64, value: &mut WordNumbers) -> u32
-    ensures { ShowsWord word result value.new (Some held.now) }
+fn word_at(held: &Held, word: u64) -> Result<WordNumbers, Fault>
+    ensures { ShowsWord word (code_of result) (shown_of no_word result) (Some held.now) }
 {
-    let Held::Machine(simulator) = held else {
-        *value = NO_WORD;
-        return NO_MACHINE;
-    };
-    let Some(word) = word_named(simulator.config(), word) else {
-        *value = NO_WORD;
-        return OUT_OF_RANGE;
-    };
-    *value = word_numbers(simulator.word(word));
-    DONE
+    let simulator = held.machine()?;
+    let word = word_named(simulator.config(), word).ok_or(Fault::OutOfRange)?;
+    Ok(word_numbers(simulator.word(word)))
 }
 
 fn word_numbers(shown: Option<u64>) -> WordNumbers
@@ -250,32 +207,20 @@ pub extern "C" fn lockup_entries(
     ensures seen { ShowsEntries slice result count.new handle.old.value }
     ensures kept { handle.new.value ≡ handle.old.value }
 {
-    match take(handle, alloc) {
-        Some(held) => {
-            let code = entries(&held, slice, count);
-            put(handle, held);
-            code
-        }
-        None => {
-            *count = 0;
-            NO_MACHINE
-        }
-    }
+    let Some(held) = take(handle, alloc) else {
+        return show(Err(Fault::NoMachine), 0, count);
+    };
+    let shown = entries(&held, slice);
+    put(handle, held);
+    show(shown, 0, count)
 }
 
-fn entries(held: &Held, slice: u64, count: &mut u64) -> u32
-    ensures { ShowsEntries slice result count.new (Some held.now) }
+fn entries(held: &Held, slice: u64) -> Result<u64, Fault>
+    ensures { ShowsEntries slice (code_of result) (shown_of 0 result) (Some held.now) }
 {
-    let Held::Machine(simulator) = held else {
-        *count = 0;
-        return NO_MACHINE;
-    };
-    let Some(slice) = slice_named(simulator.config(), slice) else {
-        *count = 0;
-        return OUT_OF_RANGE;
-    };
-    *count = simulator.log(slice).len() as u64;
-    DONE
+    let simulator = held.machine()?;
+    let slice = slice_named(simulator.config(), slice).ok_or(Fault::OutOfRange)?;
+    Ok(simulator.log(slice).len() as u64)
 }
 
 /// Shows an entry of a slice's log.
@@ -290,36 +235,24 @@ pub extern "C" fn lockup_entry_at(
     ensures seen { ShowsEntry slice nth result entry.new handle.old.value }
     ensures kept { handle.new.value ≡ handle.old.value }
 {
-    match take(handle, alloc) {
-        Some(held) => {
-            let code = entry_at(&held, slice, nth, entry);
-            put(handle, held);
-            code
-        }
-        None => {
-            *entry = NO_ENTRY;
-            NO_MACHINE
-        }
-    }
+    let Some(held) = take(handle, alloc) else {
+        return show(Err(Fault::NoMachine), NO_ENTRY, entry);
+    };
+    let shown = entry_at(&held, slice, nth);
+    put(handle, held);
+    show(shown, NO_ENTRY, entry)
 }
 
-fn entry_at(held: &Held, slice: u64, nth: u64, entry: &mut EntryNumbers) -> u32
-    ensures { ShowsEntry slice nth result entry.new (Some held.now) }
+fn entry_at(held: &Held, slice: u64, nth: u64) -> Result<EntryNumbers, Fault>
+    ensures { ShowsEntry slice nth (code_of result) (shown_of no_entry result) (Some held.now) }
 {
-    let Held::Machine(simulator) = held else {
-        *entry = NO_ENTRY;
-        return NO_MACHINE;
-    };
-    let Some(slice) = slice_named(simulator.config(), slice) else {
-        *entry = NO_ENTRY;
-        return OUT_OF_RANGE;
-    };
-    let Some(found) = simulator.log(slice).get(nth as usize) else {
-        *entry = NO_ENTRY;
-        return OUT_OF_RANGE;
-    };
-    *entry = entry_numbers(found);
-    DONE
+    let simulator = held.machine()?;
+    let slice = slice_named(simulator.config(), slice).ok_or(Fault::OutOfRange)?;
+    let found = simulator
+        .log(slice)
+        .get(nth as usize)
+        .ok_or(Fault::OutOfRange)?;
+    Ok(entry_numbers(found))
 }
 
 fn entry_numbers(entry: &Entry) -> EntryNumbers

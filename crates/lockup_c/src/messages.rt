@@ -1,11 +1,11 @@
 //! The messages in flight.
 ghost use Rattle.std.specs.Prelude.{◌≡◌, Some};
-ghost use Rattle.lockup_c.specs.Calls.{SaysFound};
-ghost use Rattle.lockup_c.specs.Messages.{ShowsMessage, ShowsMessages, data_numbers, flight_numbers};
+ghost use Rattle.lockup_c.specs.Answer.{code_of, shown_of};
+ghost use Rattle.lockup_c.specs.Messages.{ShowsMessage, ShowsMessages, data_numbers};
 ghost use Rattle.lockup_c.specs.Messages.{forwarded_numbers, message_numbers, message_with, no_message};
 ghost use Rattle.lockup_c.specs.Messages.{request_numbers};
 
-use super::codes::{DONE, NO_MACHINE, OUT_OF_RANGE};
+use super::answer::{Fault, show};
 use super::handle::{Handle, put, take};
 use super::held::Held;
 use super::names::line_named;
@@ -37,32 +37,20 @@ pub extern "C" fn lockup_messages(
     ensures seen { ShowsMessages line result count.new handle.old.value }
     ensures kept { handle.new.value ≡ handle.old.value }
 {
-    match take(handle, alloc) {
-        Some(held) => {
-            let code = messages(&held, line, count);
-            put(handle, held);
-            code
-        }
-        None => {
-            *count = 0;
-            NO_MACHINE
-        }
-    }
+    let Some(held) = take(handle, alloc) else {
+        return show(Err(Fault::NoMachine), 0, count);
+    };
+    let shown = messages(&held, line);
+    put(handle, held);
+    show(shown, 0, count)
 }
 
-fn messages(held: &Held, line: u64, count: &mut u64) -> u32
-    ensures { ShowsMessages line result count.new (Some held.now) }
+fn messages(held: &Held, line: u64) -> Result<u64, Fault>
+    ensures { ShowsMessages line (code_of result) (shown_of 0 result) (Some held.now) }
 {
-    let Held::Machine(simulator) = held else {
-        *count = 0;
-        return NO_MACHINE;
-    };
-    let Some(line) = line_named(simulator.config(), line) else {
-        *count = 0;
-        return OUT_OF_RANGE;
-    };
-    *count = simulator.count_waiting(line);
-    DONE
+    let simulator = held.machine()?;
+    let line = line_named(simulator.config(), line).ok_or(Fault::OutOfRange)?;
+    Ok(simulator.count_waiting(line))
 }
 
 /// Shows the message in front of one of a line's channels.
@@ -77,45 +65,22 @@ pub extern "C" fn lockup_message_at(
     ensures seen { ShowsMessage line nth result message.new handle.old.value }
     ensures kept { handle.new.value ≡ handle.old.value }
 {
-    match take(handle, alloc) {
-        Some(held) => {
-            let code = message_at(&held, line, nth, message);
-            put(handle, held);
-            code
-        }
-        None => {
-            *message = NO_MESSAGE;
-            NO_MACHINE
-        }
-    }
+    let Some(held) = take(handle, alloc) else {
+        return show(Err(Fault::NoMachine), NO_MESSAGE, message);
+    };
+    let shown = message_at(&held, line, nth);
+    put(handle, held);
+    show(shown, NO_MESSAGE, message)
 }
 
-fn message_at(held: &Held, line: u64, nth: u64, message: &mut MessageNumbers) -> u32
-    ensures { ShowsMessage line nth result message.new (Some held.now) }
+fn message_at(held: &Held, line: u64, nth: u64) -> Result<MessageNumbers, Fault>
+    ensures { ShowsMessage line nth (code_of result) (shown_of no_message result) (Some held.now) }
 {
-    let Held::Machine(simulator) = held else {
-        *message = NO_MESSAGE;
-        return NO_MACHINE;
-    };
-    let Some(line) = line_named(simulator.config(), line) else {
-        *message = NO_MESSAGE;
-        return OUT_OF_RANGE;
-    };
-    show_message(simulator.message_at(line, nth), message)
-}
-
-fn show_message(found: Option<(Pick, Message)>, message: &mut MessageNumbers) -> u32
-    ensures { SaysFound found flight_numbers no_message result message.new }
-{
-    match found {
-        Some((pick, found)) => {
-            *message = message_numbers(pick, found);
-            DONE
-        }
-        None => {
-            *message = NO_MESSAGE;
-            OUT_OF_RANGE
-        }
+    let simulator = held.machine()?;
+    let line = line_named(simulator.config(), line).ok_or(Fault::OutOfRange)?;
+    match simulator.message_at(line, nth) {
+        Some((pick, message)) => Ok(message_numbers(pick, message)),
+        None => Err(Fault::OutOfRange),
     }
 }
 

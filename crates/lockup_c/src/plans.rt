@@ -1,8 +1,10 @@
 //! What a step would do.
 ghost use Rattle.std.specs.Prelude.{◌≡◌, Some};
+ghost use Rattle.lockup_c.specs.Answer.{code_of, shown_of};
 ghost use Rattle.lockup_c.specs.Calls.{Decides, NamesNext, Plans};
+ghost use Rattle.lockup_c.specs.Numbers.{no_decision, no_next, no_plan};
 
-use super::codes::{DONE, NO_MACHINE, OUT_OF_RANGE};
+use super::answer::{Fault, show};
 use super::handle::{Handle, put, take};
 use super::held::Held;
 use super::names::{pick_named, request_named, turn_named};
@@ -28,17 +30,12 @@ pub extern "C" fn lockup_decide(
     ensures seen { Decides core tag op word operand replacement result decision.new handle.old.value }
     ensures kept { handle.new.value ≡ handle.old.value }
 {
-    match take(handle, alloc) {
-        Some(held) => {
-            let code = decide(&held, core, tag, op, word, operand, replacement, decision);
-            put(handle, held);
-            code
-        }
-        None => {
-            *decision = NO_DECISION;
-            NO_MACHINE
-        }
-    }
+    let Some(held) = take(handle, alloc) else {
+        return show(Err(Fault::NoMachine), NO_DECISION, decision);
+    };
+    let shown = decide(&held, core, tag, op, word, operand, replacement);
+    put(handle, held);
+    show(shown, NO_DECISION, decision)
 }
 
 fn decide(
@@ -49,15 +46,12 @@ fn decide(
     word: u64,
     operand: u64,
     replacement: u64,
-    decision: &mut DecisionNumbers,
-) -> u32
-    ensures { Decides core tag op word operand replacement result decision.new (Some held.now) }
+) -> Result<DecisionNumbers, Fault>
+    ensures { Decides core tag op word operand replacement
+        (code_of result) (shown_of no_decision result) (Some held.now) }
 {
-    let Held::Machine(simulator) = held else {
-        *decision = NO_DECISION;
-        return NO_MACHINE;
-    };
-    let Some((core, request)) = request_named(
+    let simulator = held.machine()?;
+    let (core, request) = request_named(
         simulator.config(),
         core,
         tag,
@@ -65,12 +59,9 @@ fn decide(
         word,
         operand,
         replacement,
-    ) else {
-        *decision = NO_DECISION;
-        return OUT_OF_RANGE;
-    };
-    *decision = decision_numbers(simulator.decide(core, request));
-    DONE
+    )
+    .ok_or(Fault::OutOfRange)?;
+    Ok(decision_numbers(simulator.decide(core, request)))
 }
 
 /// What `lockup_deliver` would do.
@@ -87,39 +78,20 @@ pub extern "C" fn lockup_plan(
     ensures seen { Plans channel line core from result planned.new handle.old.value }
     ensures kept { handle.new.value ≡ handle.old.value }
 {
-    match take(handle, alloc) {
-        Some(held) => {
-            let code = plan(&held, channel, line, core, from, planned);
-            put(handle, held);
-            code
-        }
-        None => {
-            *planned = NO_PLAN;
-            NO_MACHINE
-        }
-    }
+    let Some(held) = take(handle, alloc) else {
+        return show(Err(Fault::NoMachine), NO_PLAN, planned);
+    };
+    let shown = plan(&held, channel, line, core, from);
+    put(handle, held);
+    show(shown, NO_PLAN, planned)
 }
 
-fn plan(
-    held: &Held,
-    channel: u64,
-    line: u64,
-    core: u64,
-    from: u64,
-    planned: &mut PlannedNumbers,
-) -> u32
-    ensures { Plans channel line core from result planned.new (Some held.now) }
+fn plan(held: &Held, channel: u64, line: u64, core: u64, from: u64) -> Result<PlannedNumbers, Fault>
+    ensures { Plans channel line core from (code_of result) (shown_of no_plan result) (Some held.now) }
 {
-    let Held::Machine(simulator) = held else {
-        *planned = NO_PLAN;
-        return NO_MACHINE;
-    };
-    let Some(pick) = pick_named(simulator.config(), channel, line, core, from) else {
-        *planned = NO_PLAN;
-        return OUT_OF_RANGE;
-    };
-    *planned = planned_numbers(simulator.plan(pick));
-    DONE
+    let simulator = held.machine()?;
+    let pick = pick_named(simulator.config(), channel, line, core, from).ok_or(Fault::OutOfRange)?;
+    Ok(planned_numbers(simulator.plan(pick)))
 }
 
 /// What `lockup_deliver_next` would deliver.
@@ -134,30 +106,18 @@ pub extern "C" fn lockup_next(
     ensures seen { NamesNext slice channel result next.new handle.old.value }
     ensures kept { handle.new.value ≡ handle.old.value }
 {
-    match take(handle, alloc) {
-        Some(held) => {
-            let code = name_next(&held, slice, channel, next);
-            put(handle, held);
-            code
-        }
-        None => {
-            *next = NO_NEXT;
-            NO_MACHINE
-        }
-    }
+    let Some(held) = take(handle, alloc) else {
+        return show(Err(Fault::NoMachine), NO_NEXT, next);
+    };
+    let shown = name_next(&held, slice, channel);
+    put(handle, held);
+    show(shown, NO_NEXT, next)
 }
 
-fn name_next(held: &Held, slice: u64, channel: u64, next: &mut NextNumbers) -> u32
-    ensures { NamesNext slice channel result next.new (Some held.now) }
+fn name_next(held: &Held, slice: u64, channel: u64) -> Result<NextNumbers, Fault>
+    ensures { NamesNext slice channel (code_of result) (shown_of no_next result) (Some held.now) }
 {
-    let Held::Machine(simulator) = held else {
-        *next = NO_NEXT;
-        return NO_MACHINE;
-    };
-    let Some((slice, class)) = turn_named(simulator.config(), slice, channel) else {
-        *next = NO_NEXT;
-        return OUT_OF_RANGE;
-    };
-    *next = next_numbers(simulator.next(slice, class));
-    DONE
+    let simulator = held.machine()?;
+    let (slice, class) = turn_named(simulator.config(), slice, channel).ok_or(Fault::OutOfRange)?;
+    Ok(next_numbers(simulator.next(slice, class)))
 }

@@ -1,17 +1,17 @@
 //! What waits in a core's miss registers.
 ghost use Rattle.std.specs.Prelude.{◌≡◌, ◌<◌, Some, slice_get};
+ghost use Rattle.lockup_c.specs.Answer.{code_of, shown_of};
 ghost use Rattle.lockup_c.specs.Calls.{SaysFound};
 ghost use Rattle.lockup_c.specs.Registers.{ShowsRegister, ShowsTarget, ShowsTargets, needed_number, no_register};
 ghost use Rattle.lockup_c.specs.Registers.{no_target, register_numbers, request_number, target_numbers};
 
-use super::codes::{DONE, NO_MACHINE, NO_MEMORY, OUT_OF_RANGE};
+use super::answer::{Fault, show};
 use super::handle::{Handle, put, take};
 use super::held::Held;
 use super::looks::{op_number, operand_of, replacement_of};
 use super::names::{copy_named, file_named};
 use super::structs::{RegisterNumbers, TargetNumbers};
 use address_map::LineAddr;
-use arrayvec::ArrayVec;
 use cache_table::CopyState;
 use mshr_file::Target;
 use simulator::MissRegister;
@@ -49,17 +49,12 @@ pub extern "C" fn lockup_register_at(
     ensures seen { ShowsRegister core slice nth result register.new handle.old.value }
     ensures kept { handle.new.value ≡ handle.old.value }
 {
-    match take(handle, alloc) {
-        Some(held) => {
-            let code = register_at(&held, alloc, core, slice, nth, register);
-            put(handle, held);
-            code
-        }
-        None => {
-            *register = NO_REGISTER;
-            NO_MACHINE
-        }
-    }
+    let Some(held) = take(handle, alloc) else {
+        return show(Err(Fault::NoMachine), NO_REGISTER, register);
+    };
+    let shown = register_at(&held, alloc, core, slice, nth);
+    put(handle, held);
+    show(shown, NO_REGISTER, register)
 }
 
 fn register_at(
@@ -68,39 +63,15 @@ fn register_at(
     core: u64,
     slice: u64,
     nth: u64,
-    register: &mut RegisterNumbers,
-) -> u32
-    ensures { ShowsRegister core slice nth result register.new (Some held.now) }
+) -> Result<RegisterNumbers, Fault>
+    ensures { ShowsRegister core slice nth
+        (code_of result) (shown_of no_register result) (Some held.now) }
 {
-    let Held::Machine(simulator) = held else {
-        *register = NO_REGISTER;
-        return NO_MACHINE;
-    };
-    let Some((core, slice)) = file_named(simulator.config(), core, slice) else {
-        *register = NO_REGISTER;
-        return OUT_OF_RANGE;
-    };
-    match simulator.register_at(alloc, core, slice, nth as usize) {
-        Ok(found) => show_register(found, register),
-        Err(_) => {
-            *register = NO_REGISTER;
-            NO_MEMORY
-        }
-    }
-}
-
-fn show_register(found: Option<MissRegister>, register: &mut RegisterNumbers) -> u32
-    ensures { SaysFound found register_numbers no_register result register.new }
-{
-    match found {
-        Some(found) => {
-            *register = register_numbers(found);
-            DONE
-        }
-        None => {
-            *register = NO_REGISTER;
-            OUT_OF_RANGE
-        }
+    let simulator = held.machine()?;
+    let (core, slice) = file_named(simulator.config(), core, slice).ok_or(Fault::OutOfRange)?;
+    match simulator.register_at(alloc, core, slice, nth as usize)? {
+        Some(found) => Ok(register_numbers(found)),
+        None => Err(Fault::OutOfRange),
     }
 }
 
@@ -151,32 +122,20 @@ pub extern "C" fn lockup_targets(
     ensures seen { ShowsTargets core line result count.new handle.old.value }
     ensures kept { handle.new.value ≡ handle.old.value }
 {
-    match take(handle, alloc) {
-        Some(held) => {
-            let code = targets(&held, core, line, count);
-            put(handle, held);
-            code
-        }
-        None => {
-            *count = 0;
-            NO_MACHINE
-        }
-    }
+    let Some(held) = take(handle, alloc) else {
+        return show(Err(Fault::NoMachine), 0, count);
+    };
+    let shown = targets(&held, core, line);
+    put(handle, held);
+    show(shown, 0, count)
 }
 
-fn targets(held: &Held, core: u64, line: u64, count: &mut u64) -> u32
-    ensures { ShowsTargets core line result count.new (Some held.now) }
+fn targets(held: &Held, core: u64, line: u64) -> Result<u64, Fault>
+    ensures { ShowsTargets core line (code_of result) (shown_of 0 result) (Some held.now) }
 {
-    let Held::Machine(simulator) = held else {
-        *count = 0;
-        return NO_MACHINE;
-    };
-    let Some((core, line)) = copy_named(simulator.config(), core, line) else {
-        *count = 0;
-        return OUT_OF_RANGE;
-    };
-    *count = simulator.targets(core, line).len() as u64;
-    DONE
+    let simulator = held.machine()?;
+    let (core, line) = copy_named(simulator.config(), core, line).ok_or(Fault::OutOfRange)?;
+    Ok(simulator.targets(core, line).len() as u64)
 }
 
 /// Shows one of the accesses of a core that wait for a line.
@@ -192,51 +151,30 @@ pub extern "C" fn lockup_target_at(
     ensures seen { ShowsTarget core line nth result target.new handle.old.value }
     ensures kept { handle.new.value ≡ handle.old.value }
 {
-    match take(handle, alloc) {
-        Some(held) => {
-            let code = target_at(&held, core, line, nth, target);
-            put(handle, held);
-            code
-        }
-        None => {
-            *target = NO_TARGET;
-            NO_MACHINE
-        }
-    }
+    let Some(held) = take(handle, alloc) else {
+        return show(Err(Fault::NoMachine), NO_TARGET, target);
+    };
+    let shown = target_at(&held, core, line, nth);
+    put(handle, held);
+    show(shown, NO_TARGET, target)
 }
 
-fn target_at(held: &Held, core: u64, line: u64, nth: u64, target: &mut TargetNumbers) -> u32
-    ensures { ShowsTarget core line nth result target.new (Some held.now) }
+fn target_at(held: &Held, core: u64, line: u64, nth: u64) -> Result<TargetNumbers, Fault>
+    ensures { ShowsTarget core line nth (code_of result) (shown_of no_target result) (Some held.now) }
 {
-    let Held::Machine(simulator) = held else {
-        *target = NO_TARGET;
-        return NO_MACHINE;
-    };
-    let Some((core, line)) = copy_named(simulator.config(), core, line) else {
-        *target = NO_TARGET;
-        return OUT_OF_RANGE;
-    };
-    show_target(line, simulator.targets(core, line), nth, target)
+    let simulator = held.machine()?;
+    let (core, line) = copy_named(simulator.config(), core, line).ok_or(Fault::OutOfRange)?;
+    target_of(line, simulator.targets(core, line).as_slice(), nth)
 }
 
-fn show_target(
-    line: LineAddr,
-    targets: ArrayVec<Target, 64>,
-    nth: u64,
-    target: &mut TargetNumbers,
-) -> u32
+fn target_of(line: LineAddr, targets: &[Target], nth: u64) -> Result<TargetNumbers, Fault>
     requires { line.0 < 65536 }
-    ensures { SaysFound (slice_get targets.items nth) (target_numbers line) no_target result target.new }
+    ensures { SaysFound (slice_get targets.now nth) (target_numbers line) no_target
+        (code_of result) (shown_of no_target result) }
 {
     match targets.get(nth as usize) {
-        Some(found) => {
-            *target = target_numbers(line, found);
-            DONE
-        }
-        None => {
-            *target = NO_TARGET;
-            OUT_OF_RANGE
-        }
+        Some(target) => Ok(target_numbers(line, target)),
+        None => Err(Fault::OutOfRange),
     }
 }
 

@@ -1,8 +1,10 @@
 //! The steps of a machine.
 ghost use Rattle.std.specs.Prelude.{Some};
+ghost use Rattle.lockup_c.specs.Answer.{code_of, shown_of};
 ghost use Rattle.lockup_c.specs.Calls.{BeginsLogOf, Delivers, DeliversNext, Evicts, Hands, Issues};
+ghost use Rattle.lockup_c.specs.Numbers.{no_issue, no_next, no_receipt};
 
-use super::codes::{DONE, NO_MACHINE, NO_MEMORY, OUT_OF_RANGE};
+use super::answer::{Fault, show};
 use super::handle::{Handle, put, take};
 use super::held::Held;
 use super::looks::flag;
@@ -29,17 +31,12 @@ pub extern "C" fn lockup_issue(
 ) -> u32
     ensures { Issues core tag op word operand replacement result issued.new handle.old.value handle.new.value }
 {
-    match take(handle, alloc) {
-        Some(mut held) => {
-            let code = issue(&mut held, core, tag, op, word, operand, replacement, issued);
-            put(handle, held);
-            code
-        }
-        None => {
-            *issued = NO_ISSUE;
-            NO_MACHINE
-        }
-    }
+    let Some(mut held) = take(handle, alloc) else {
+        return show(Err(Fault::NoMachine), NO_ISSUE, issued);
+    };
+    let shown = issue(&mut held, core, tag, op, word, operand, replacement);
+    put(handle, held);
+    show(shown, NO_ISSUE, issued)
 }
 
 fn issue(
@@ -50,15 +47,14 @@ fn issue(
     word: u64,
     operand: u64,
     replacement: u64,
-    issued: &mut IssuedNumbers,
-) -> u32
-    ensures { Issues core tag op word operand replacement result issued.new (Some held.old) (Some held.new) }
+) -> Result<IssuedNumbers, Fault>
+    ensures { Issues core tag op word operand replacement
+        (code_of result) (shown_of no_issue result) (Some held.old) (Some held.new) }
 {
     let Held::Machine(simulator) = held else {
-        *issued = NO_ISSUE;
-        return NO_MACHINE;
+        return Err(Fault::NoMachine);
     };
-    let Some((core, request)) = request_named(
+    let (core, request) = request_named(
         simulator.config(),
         core,
         tag,
@@ -66,19 +62,11 @@ fn issue(
         word,
         operand,
         replacement,
-    ) else {
-        *issued = NO_ISSUE;
-        return OUT_OF_RANGE;
-    };
+    )
+    .ok_or(Fault::OutOfRange)?;
     match simulator.issue(core, request) {
-        Ok(became) => {
-            *issued = issued_numbers(became);
-            DONE
-        }
-        Err(_) => {
-            *issued = NO_ISSUE;
-            NO_MEMORY
-        }
+        Ok(became) => Ok(issued_numbers(became)),
+        Err(_) => Err(Fault::NoMemory),
     }
 }
 
@@ -93,32 +81,22 @@ pub extern "C" fn lockup_evict(
 ) -> u32
     ensures { Evicts core line result answer.new handle.old.value handle.new.value }
 {
-    match take(handle, alloc) {
-        Some(mut held) => {
-            let code = evict(&mut held, core, line, answer);
-            put(handle, held);
-            code
-        }
-        None => {
-            *answer = 0;
-            NO_MACHINE
-        }
-    }
+    let Some(mut held) = take(handle, alloc) else {
+        return show(Err(Fault::NoMachine), 0, answer);
+    };
+    let shown = evict(&mut held, core, line);
+    put(handle, held);
+    show(shown, 0, answer)
 }
 
-fn evict(held: &mut Held, core: u64, line: u64, answer: &mut u64) -> u32
-    ensures { Evicts core line result answer.new (Some held.old) (Some held.new) }
+fn evict(held: &mut Held, core: u64, line: u64) -> Result<u64, Fault>
+    ensures { Evicts core line (code_of result) (shown_of 0 result) (Some held.old) (Some held.new) }
 {
     let Held::Machine(simulator) = held else {
-        *answer = 0;
-        return NO_MACHINE;
+        return Err(Fault::NoMachine);
     };
-    let Some((core, line)) = copy_named(simulator.config(), core, line) else {
-        *answer = 0;
-        return OUT_OF_RANGE;
-    };
-    *answer = evicted_number(simulator.evict(core, line));
-    DONE
+    let (core, line) = copy_named(simulator.config(), core, line).ok_or(Fault::OutOfRange)?;
+    Ok(evicted_number(simulator.evict(core, line)))
 }
 
 /// Delivers the message in front of a channel.
@@ -134,32 +112,23 @@ pub extern "C" fn lockup_deliver(
 ) -> u32
     ensures { Delivers channel line core from result answer.new handle.old.value handle.new.value }
 {
-    match take(handle, alloc) {
-        Some(mut held) => {
-            let code = deliver(&mut held, channel, line, core, from, answer);
-            put(handle, held);
-            code
-        }
-        None => {
-            *answer = 0;
-            NO_MACHINE
-        }
-    }
+    let Some(mut held) = take(handle, alloc) else {
+        return show(Err(Fault::NoMachine), 0, answer);
+    };
+    let shown = deliver(&mut held, channel, line, core, from);
+    put(handle, held);
+    show(shown, 0, answer)
 }
 
-fn deliver(held: &mut Held, channel: u64, line: u64, core: u64, from: u64, answer: &mut u64) -> u32
-    ensures { Delivers channel line core from result answer.new (Some held.old) (Some held.new) }
+fn deliver(held: &mut Held, channel: u64, line: u64, core: u64, from: u64) -> Result<u64, Fault>
+    ensures { Delivers channel line core from
+        (code_of result) (shown_of 0 result) (Some held.old) (Some held.new) }
 {
     let Held::Machine(simulator) = held else {
-        *answer = 0;
-        return NO_MACHINE;
+        return Err(Fault::NoMachine);
     };
-    let Some(pick) = pick_named(simulator.config(), channel, line, core, from) else {
-        *answer = 0;
-        return OUT_OF_RANGE;
-    };
-    *answer = delivered_number(simulator.deliver(pick));
-    DONE
+    let pick = pick_named(simulator.config(), channel, line, core, from).ok_or(Fault::OutOfRange)?;
+    Ok(delivered_number(simulator.deliver(pick)))
 }
 
 /// Delivers the next message of a slice that can be moved.
@@ -173,32 +142,23 @@ pub extern "C" fn lockup_deliver_next(
 ) -> u32
     ensures { DeliversNext slice channel result next.new handle.old.value handle.new.value }
 {
-    match take(handle, alloc) {
-        Some(mut held) => {
-            let code = deliver_next(&mut held, slice, channel, next);
-            put(handle, held);
-            code
-        }
-        None => {
-            *next = NO_NEXT;
-            NO_MACHINE
-        }
-    }
+    let Some(mut held) = take(handle, alloc) else {
+        return show(Err(Fault::NoMachine), NO_NEXT, next);
+    };
+    let shown = deliver_next(&mut held, slice, channel);
+    put(handle, held);
+    show(shown, NO_NEXT, next)
 }
 
-fn deliver_next(held: &mut Held, slice: u64, channel: u64, next: &mut NextNumbers) -> u32
-    ensures { DeliversNext slice channel result next.new (Some held.old) (Some held.new) }
+fn deliver_next(held: &mut Held, slice: u64, channel: u64) -> Result<NextNumbers, Fault>
+    ensures { DeliversNext slice channel
+        (code_of result) (shown_of no_next result) (Some held.old) (Some held.new) }
 {
     let Held::Machine(simulator) = held else {
-        *next = NO_NEXT;
-        return NO_MACHINE;
+        return Err(Fault::NoMachine);
     };
-    let Some((slice, class)) = turn_named(simulator.config(), slice, channel) else {
-        *next = NO_NEXT;
-        return OUT_OF_RANGE;
-    };
-    *next = next_numbers(simulator.deliver_next(slice, class));
-    DONE
+    let (slice, class) = turn_named(simulator.config(), slice, channel).ok_or(Fault::OutOfRange)?;
+    Ok(next_numbers(simulator.deliver_next(slice, class)))
 }
 
 /// Hands out the core's next reply of a slice.
@@ -212,32 +172,23 @@ pub extern "C" fn lockup_hand(
 ) -> u32
     ensures { Hands core slice result receipt.new handle.old.value handle.new.value }
 {
-    match take(handle, alloc) {
-        Some(mut held) => {
-            let code = hand(&mut held, core, slice, receipt);
-            put(handle, held);
-            code
-        }
-        None => {
-            *receipt = NO_RECEIPT;
-            NO_MACHINE
-        }
-    }
+    let Some(mut held) = take(handle, alloc) else {
+        return show(Err(Fault::NoMachine), NO_RECEIPT, receipt);
+    };
+    let shown = hand(&mut held, core, slice);
+    put(handle, held);
+    show(shown, NO_RECEIPT, receipt)
 }
 
-fn hand(held: &mut Held, core: u64, slice: u64, receipt: &mut ReceiptNumbers) -> u32
-    ensures { Hands core slice result receipt.new (Some held.old) (Some held.new) }
+fn hand(held: &mut Held, core: u64, slice: u64) -> Result<ReceiptNumbers, Fault>
+    ensures { Hands core slice
+        (code_of result) (shown_of no_receipt result) (Some held.old) (Some held.new) }
 {
     let Held::Machine(simulator) = held else {
-        *receipt = NO_RECEIPT;
-        return NO_MACHINE;
+        return Err(Fault::NoMachine);
     };
-    let Some((core, slice)) = file_named(simulator.config(), core, slice) else {
-        *receipt = NO_RECEIPT;
-        return OUT_OF_RANGE;
-    };
-    *receipt = receipt_numbers(simulator.hand(core, slice));
-    DONE
+    let (core, slice) = file_named(simulator.config(), core, slice).ok_or(Fault::OutOfRange)?;
+    Ok(receipt_numbers(simulator.hand(core, slice)))
 }
 
 /// Begins a new log of a slice, where it is quiet.
@@ -250,38 +201,23 @@ pub extern "C" fn lockup_begin_log(
 ) -> u32
     ensures { BeginsLogOf slice result begun.new handle.old.value handle.new.value }
 {
-    match take(handle, alloc) {
-        Some(mut held) => {
-            let code = begin_log(alloc, &mut held, slice, begun);
-            put(handle, held);
-            code
-        }
-        None => {
-            *begun = 0;
-            NO_MACHINE
-        }
-    }
+    let Some(mut held) = take(handle, alloc) else {
+        return show(Err(Fault::NoMachine), 0, begun);
+    };
+    let shown = begin_log(alloc, &mut held, slice);
+    put(handle, held);
+    show(shown, 0, begun)
 }
 
-fn begin_log(alloc: Global, held: &mut Held, slice: u64, begun: &mut u64) -> u32
-    ensures { BeginsLogOf slice result begun.new (Some held.old) (Some held.new) }
+fn begin_log(alloc: Global, held: &mut Held, slice: u64) -> Result<u64, Fault>
+    ensures { BeginsLogOf slice (code_of result) (shown_of 0 result) (Some held.old) (Some held.new) }
 {
     let Held::Machine(simulator) = held else {
-        *begun = 0;
-        return NO_MACHINE;
+        return Err(Fault::NoMachine);
     };
-    let Some(slice) = slice_named(simulator.config(), slice) else {
-        *begun = 0;
-        return OUT_OF_RANGE;
-    };
+    let slice = slice_named(simulator.config(), slice).ok_or(Fault::OutOfRange)?;
     match simulator.begin_log(alloc, slice) {
-        Ok(is_quiet) => {
-            *begun = flag(is_quiet);
-            DONE
-        }
-        Err(_) => {
-            *begun = 0;
-            NO_MEMORY
-        }
+        Ok(is_quiet) => Ok(flag(is_quiet)),
+        Err(_) => Err(Fault::NoMemory),
     }
 }

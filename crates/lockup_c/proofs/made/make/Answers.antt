@@ -1,5 +1,5 @@
 use Rattle.std.proofs.Common.{Some, ap, inl, refl, sym, ◌∙◌}
-use Rattle.lockup_c.proofs.CallLemmas.{made}
+use Rattle.lockup_c.proofs.MadeLemmas.{made}
 use Rattle.lockup_c.proofs.made.make.Goals as goal
 
 pub returns-in-Ok : goal.returns-in-Ok

@@ -19,7 +19,9 @@ use Rattle.litmus_text.specs.Line.{text_of_parts}
 use Rattle.script_waves.specs.Named.{Names, line_named}
 use Rattle.script_waves.specs.Values.{name_of_channel, names_of, text_behind, text_of_entry, text_of_mail}
 use Rattle.script_waves.specs.Values.{text_of_place, text_of_states, text_of_total, text_of_waiting, total_of, waiting_of}
-use Rattle.script_waves.specs.Waves.{IsShown, IsTick, Shown, ShowsNext, Ticks, next, shown_first, text_of_tick, text_of_values}
+use Rattle.script_waves.specs.Waves.{IsShown, IsTick, Shown, ShowsNext, Ticks, next, shown_by, shown_first}
+use Rattle.script_waves.specs.Waves.{text_of_tick, text_of_values}
+use Rattle.script_waves.specs.declared.player.Waved.{Waved}
 use Rattle.slice_answer.specs.declared.answer.Delivery.TheVariants as deliveries
 use Rattle.slice_answer.specs.declared.answer.Delivery.{Delivery}
 use Rattle.slice_core.specs.Facts.{AreWaitingAt, ShowsLine}
@@ -150,3 +152,14 @@ module _ (config other : Config) (commands : List (ℕ × List (List ℕ))) (now
   stopped_from fault stopped =
       subst (λ (s : Shown). PlaysUpTo (Ticks config) config commands s before after fault) fresh
       (subst (λ (c : Config). PlaysUpTo (Ticks config) c commands now before after fault) one stopped)
+
+-- a command that a player of this machine plays, by the configuration that it had first
+pub ticks_by : (config : Config) (old new : Waved) (line : List ℕ) (command : Command)
+    (before after : Option (List ℕ)) → old.machine.config ≡ config
+    → (new.machine.config ≡ old.machine.config)
+    × Ticks old.machine.config (shown_by old) line command before after (shown_by new)
+    → (new.machine.config ≡ config) × Ticks config (shown_by old) line command before after (shown_by new)
+ticks_by config old new line command before after same made = (
+  made.0 ∙ same,
+  subst (λ k. Ticks k (shown_by old) line command before after (shown_by new)) same made.1,
+)

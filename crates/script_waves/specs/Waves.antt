@@ -21,6 +21,7 @@ use Rattle.script_waves.specs.InUse.{text_of_uses}
 use Rattle.script_waves.specs.Named.{Names, line_named}
 use Rattle.script_waves.specs.Signals.{text_of_header}
 use Rattle.script_waves.specs.Values.{text_of_command, text_of_lines, text_of_time}
+use Rattle.script_waves.specs.declared.player.Waved.{Waved}
 use Rattle.litmus_text.specs.Line.{text_of_parts}
 use Rattle.slice_answer.specs.declared.answer.Delivery.TheVariants as deliveries
 use Rattle.slice_answer.specs.declared.answer.Delivery.{Delivery}
@@ -34,6 +35,14 @@ pub record Shown : Type 0 where
   pub named : List LineAddr
   pub played : ℕ
   pub values : List ℕ
+
+abbrev pub shown_by : Waved → Shown
+shown_by player = record {
+  slices = player.machine.slices.items;
+  named = player.named.items;
+  played = player.played;
+  values = player.values.items;
+}
 
 -- one more than a count of 64 bits
 abbrev pub next : ℕ → ℕ

@@ -8,7 +8,7 @@ ghost use Rattle.litmus_script.specs.Prints.{IsPrinted};
 ghost use Rattle.litmus_text.specs.Command.{IsInRange};
 ghost use Rattle.script_waves.specs.Named.{Names, line_named};
 ghost use Rattle.script_waves.specs.Values.{text_of_command, text_of_lines, text_of_time};
-ghost use Rattle.script_waves.specs.Waves.{ArePumpTicks, IsShown, IsTick, Shown, ShowsNext, text_of_tick, text_of_values};
+ghost use Rattle.script_waves.specs.Waves.{ArePumpTicks, IsShown, IsTick, ShowsNext, shown_by, text_of_tick, text_of_values};
 
 use super::changes::write_changes;
 use super::command::{write_command, write_time};
@@ -42,25 +42,12 @@ pub(crate) struct Waved {
 
 impl Player for Waved {
     ghost use Rattle.std.specs.Prelude.{◌≡◌};
-    ghost use Rattle.script_waves.specs.Waves.{Shown, Ticks};
+    ghost use Rattle.script_waves.specs.Waves.{Ticks, shown_by};
 
     ghost config_of = { λ player. player.machine.config };
 
     ghost plays = { λ old line command before after new. (new.machine.config ≡ old.machine.config)
-        × Ticks old.machine.config
-        (record {
-          slices = old.machine.slices.items;
-          named = old.named.items;
-          played = old.played;
-          values = old.values.items;
-        })
-        line command before after
-        (record {
-          slices = new.machine.slices.items;
-          named = new.named.items;
-          played = new.played;
-          values = new.values.items;
-        }) };
+        × Ticks old.machine.config (shown_by old) line command before after (shown_by new) };
 
     fn config(&self) -> &Checked {
         &self.machine.config
@@ -82,25 +69,12 @@ impl Player for Waved {
 /// Each delivery that a pump makes takes a unit of time.
 impl Deliverer for Waved {
     ghost use Rattle.std.specs.Prelude.{◌≡◌};
-    ghost use Rattle.script_waves.specs.Waves.{IsNextTick, Shown};
+    ghost use Rattle.script_waves.specs.Waves.{IsNextTick, shown_by};
 
     ghost config_of = { λ player. player.machine.config };
 
     ghost delivers = { λ old slice answer before after new. (new.machine.config ≡ old.machine.config)
-        × IsNextTick old.machine.config
-        (record {
-          slices = old.machine.slices.items;
-          named = old.named.items;
-          played = old.played;
-          values = old.values.items;
-        })
-        slice answer before after
-        (record {
-          slices = new.machine.slices.items;
-          named = new.named.items;
-          played = new.played;
-          values = new.values.items;
-        }) };
+        × IsNextTick old.machine.config (shown_by old) slice answer before after (shown_by new) };
 
     fn slices(&self) -> usize {
         self.machine.config.slices()
@@ -144,19 +118,7 @@ impl Waved {
         requires { IsInRange self.old.machine.config command }
         ensures config { self.new.machine.config ≡ self.old.machine.config }
         ensures ticked { OnOk result (IsTick self.old.machine.config line.now command
-            (record {
-              slices = self.old.machine.slices.items;
-              named = self.old.named.items;
-              played = self.old.played;
-              values = self.old.values.items;
-            })
-            (record {
-              slices = self.new.machine.slices.items;
-              named = self.new.named.items;
-              played = self.new.played;
-              values = self.new.values.items;
-            })
-            (W.contents out.old) (W.contents out.new)) }
+            (shown_by self.old) (shown_by self.new) (W.contents out.old) (W.contents out.new)) }
         ensures fault { IfErr result IsOfRun }
     {
         self.answer(command)?;
@@ -167,19 +129,7 @@ impl Waved {
     fn pump<W: Write>(&mut self, line: &[u8], calls: u64, out: &mut W) -> Result<(), TextFault>
         ensures config { self.new.machine.config ≡ self.old.machine.config }
         ensures ticked { OnOk result (ArePumpTicks self.old.machine.config line.now calls
-            (record {
-              slices = self.old.machine.slices.items;
-              named = self.old.named.items;
-              played = self.old.played;
-              values = self.old.values.items;
-            })
-            (record {
-              slices = self.new.machine.slices.items;
-              named = self.new.named.items;
-              played = self.new.played;
-              values = self.new.values.items;
-            })
-            (W.contents out.old) (W.contents out.new)) }
+            (shown_by self.old) (shown_by self.new) (W.contents out.old) (W.contents out.new)) }
         ensures fault { IfErr result IsOfRun }
     {
         let _pumped = pump_slices(self, calls, out)?;
@@ -194,19 +144,7 @@ impl Waved {
     ) -> Result<(), TextFault>
         ensures machine { self.new.machine ≡ self.old.machine }
         ensures shown { OnOk result (ShowsNext self.old.machine.config delivered
-            (record {
-              slices = self.old.machine.slices.items;
-              named = self.old.named.items;
-              played = self.old.played;
-              values = self.old.values.items;
-            })
-            (W.contents out.old) (W.contents out.new)
-            (record {
-              slices = self.new.machine.slices.items;
-              named = self.new.named.items;
-              played = self.new.played;
-              values = self.new.values.items;
-            })) }
+            (shown_by self.old) (W.contents out.old) (W.contents out.new) (shown_by self.new)) }
         ensures fault { IfErr result IsOfRun }
     {
         let DeliveredNext::Moved(pick) = delivered else {
@@ -225,19 +163,7 @@ impl Waved {
     ) -> Result<(), TextFault>
         ensures machine { self.new.machine ≡ self.old.machine }
         ensures shown { OnOk result (IsShown self.old.machine.config line.now command
-            (record {
-              slices = self.old.machine.slices.items;
-              named = self.old.named.items;
-              played = self.old.played;
-              values = self.old.values.items;
-            })
-            (record {
-              slices = self.new.machine.slices.items;
-              named = self.new.named.items;
-              played = self.new.played;
-              values = self.new.values.items;
-            })
-            (W.contents out.old) (W.contents out.new)) }
+            (shown_by self.old) (shown_by self.new) (W.contents out.old) (W.contents out.new)) }
         ensures fault { IfErr result IsOfRun }
     {
         self.name(command)?;

@@ -4,8 +4,8 @@ use Rattle.address_map.specs.declared.config.Config.{Config}
 use Rattle.litmus_script.proofs.PlayLemmas.{all_shown, up_to_shown}
 use Rattle.litmus_script.specs.Play.{PlaysAll, PlaysUpTo}
 use Rattle.litmus_script.specs.Script.{commands_of}
-use Rattle.script_waves.specs.Waves.{IsWritten, Shown, Ticks, shown_first, next}
-use Rattle.script_waves.proofs.WavesLemmas.{played_from, stopped_from}
+use Rattle.script_waves.specs.Waves.{IsWritten, Shown, Ticks, shown_by, shown_first, next}
+use Rattle.script_waves.proofs.WavesLemmas.{played_from, stopped_from, ticks_by}
 use Rattle.script_waves.proofs.waves.waves.Goals as goal
 
 pub returns-in-Ok-clause-waves : goal.returns-in-Ok-clause-waves
@@ -14,44 +14,12 @@ returns-in-Ok-clause-waves g c =
     let contents = g.W.Write.contents in
     let new = c.new-player.ensures in
     let is = ap (λ machine. machine.config) new.machine in
-    let fresh : record {
-      slices = c.new-player.result.machine.slices.items;
-      named = c.new-player.result.named.items;
-      played = c.new-player.result.played;
-      values = c.new-player.result.values.items;
-    }
-    ≡ shown_first c.args.machine.slices.items = rw (new.machine, new.named, new.played, new.values) refl in
-    let played = all_shown (λ p. record {
-      slices = p.machine.slices.items;
-      named = p.named.items;
-      played = p.played;
-      values = p.values.items;
-    })
-    (λ p. p.machine.config ≡ config) _ (Ticks config)
-    (λ old new line command before after same made. (
-      made.0 ∙ same,
-      subst (λ k. Ticks k (record {
-        slices = old.machine.slices.items;
-        named = old.named.items;
-        played = old.played;
-        values = old.values.items;
-      }) line command before after
-          (record {
-            slices = new.machine.slices.items;
-            named = new.named.items;
-            played = new.played;
-            values = new.values.items;
-          }))
-          same made.1,
-    ))
+    let fresh : shown_by c.new-player.result ≡ shown_first c.args.machine.slices.items =
+    rw (new.machine, new.named, new.played, new.values) refl in
+    let played = all_shown shown_by (λ p. p.machine.config ≡ config) _ (Ticks config) (ticks_by config)
     _ _ _ _ _ _ is c.in-Ok.ensures.played in
     let last = c.play.new.player in
-    let end : Shown = record {
-      slices = last.machine.slices.items;
-      named = last.named.items;
-      played = last.played;
-      values = last.values.items;
-    } in
+    let end : Shown = shown_by last in
     on_ok_weaker c.write_all.result (λ written. record {
       end = end;
       ticks = c.play.new.out.items;
@@ -76,36 +44,9 @@ returns-clause-fault g c =
     let contents = g.W.Write.contents in
     let new = c.new-player.ensures in
     let is = ap (λ machine. machine.config) new.machine in
-    let fresh : record {
-      slices = c.new-player.result.machine.slices.items;
-      named = c.new-player.result.named.items;
-      played = c.new-player.result.played;
-      values = c.new-player.result.values.items;
-    }
-    ≡ shown_first c.args.machine.slices.items = rw (new.machine, new.named, new.played, new.values) refl in
-    let stopped = up_to_shown (λ p. record {
-      slices = p.machine.slices.items;
-      named = p.named.items;
-      played = p.played;
-      values = p.values.items;
-    })
-    (λ p. p.machine.config ≡ config) _ (Ticks config)
-    (λ old new line command before after same made. (
-      made.0 ∙ same,
-      subst (λ k. Ticks k (record {
-        slices = old.machine.slices.items;
-        named = old.named.items;
-        played = old.played;
-        values = old.values.items;
-      }) line command before after
-          (record {
-            slices = new.machine.slices.items;
-            named = new.named.items;
-            played = new.played;
-            values = new.values.items;
-          }))
-          same made.1,
-    ))
+    let fresh : shown_by c.new-player.result ≡ shown_first c.args.machine.slices.items =
+    rw (new.machine, new.named, new.played, new.values) refl in
+    let stopped = up_to_shown shown_by (λ p. p.machine.config ≡ config) _ (Ticks config) (ticks_by config)
     _ _ _ _ _ c.in-Err.fault is c.in-Err.ensures.fault in
     inr (record {
       ticks = Some c.play.new.out.items;

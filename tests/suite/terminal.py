@@ -39,6 +39,14 @@ def test_colors() -> None:
         same("answers alone", [0, 0, 1, 2], counts(at_terminal("script", script)[0]))
 
 
+def test_pictures_have_no_colors() -> None:
+    with tempfile.TemporaryDirectory() as room:
+        script = str(write(f"{room}/script.txt", SCRIPT.removesuffix("rq\n") + "pump 1\n"))
+        for form in ("page", "chart"):
+            told, status = at_terminal(form, script)
+            same(f"{form} at a terminal", ([0, 0, 0, 0], 0), (counts(told), status))
+
+
 def test_a_prompt_has_a_mark() -> None:
     told, status = at_terminal("try", typed=b"load 0 0\nnext\nquit\n")
     same("a mark before each line that is read", (3, 0), (told.count("> "), status))

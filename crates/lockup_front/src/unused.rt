@@ -1,22 +1,18 @@
 //! Lines of a text of programs that change nothing of its run, and settings of a sweep that change nothing of its runs.
 
 use super::streams::{Streams, complain};
-use litmus_text::{Lines, Words, parse_number, value_named};
+use litmus_text::{Lines, Words, parse_number};
 use program_sweep::Setting;
 use program_text::Limits;
 
 /// What bounds the accesses of a core that wait. Where one is under way at a time, none finds a bound.
-static BOUNDS: [(&[u8], &str); 3] = [
-    (b"mshrs", "mshrs"),
-    (b"targets", "targets"),
-    (b"misses", "misses"),
-];
+const BOUNDS: [&str; 3] = ["mshrs", "targets", "misses"];
 
-static OUTSTANDING: [(&[u8], ()); 1] = [(b"outstanding", ())];
+const OUTSTANDING: &[u8] = b"outstanding";
 
-static PACE: [(&[u8], ()); 1] = [(b"pace", ())];
+const PACE: &[u8] = b"pace";
 
-static CORE: [(&[u8], ()); 1] = [(b"core", ())];
+const CORE: &[u8] = b"core";
 
 /// Why what bounds waiting accesses changes nothing.
 const SINGLE: &str = "each core has one access under way";
@@ -31,10 +27,10 @@ pub fn tell_unused<R: Eprint>(rt: &R, streams: Streams, input: &[u8], given: Lim
         let Some(word) = Words::of_line(line).next() else {
             continue;
         };
-        if value_named(&CORE, word).is_some() {
+        if word == CORE {
             return;
         }
-        if given.is_limited() && value_named(&OUTSTANDING, word).is_some() {
+        if given.is_limited() && word == OUTSTANDING {
             tell(
                 rt,
                 streams,
@@ -43,7 +39,7 @@ pub fn tell_unused<R: Eprint>(rt: &R, streams: Streams, input: &[u8], given: Lim
                 "--outstanding stands in its place",
             );
         }
-        if given.is_paced() && value_named(&PACE, word).is_some() {
+        if given.is_paced() && word == PACE {
             tell(rt, streams, number, "pace", "--pace stands in its place");
         }
         if is_single {
@@ -69,21 +65,29 @@ pub fn tell_unused_settings<R: Eprint>(
         return;
     }
     for setting in settings {
-        let name = setting.name;
-        if value_named(&BOUNDS, name.as_bytes()).is_some() {
+        if let Some(name) = bound_named(setting.name.as_bytes()) {
             tell_setting(rt, streams, name);
         }
     }
 }
 
 fn varies_outstanding(settings: &[Setting<'_>]) -> bool {
-    settings.iter().any(|setting| value_named(&OUTSTANDING, setting.name.as_bytes()).is_some())
+    settings
+        .iter()
+        .any(|setting| setting.name.as_bytes() == OUTSTANDING)
 }
 
 fn tell_bound<R: Eprint>(rt: &R, streams: Streams, number: u64, word: &[u8]) {
-    if let Some(name) = value_named(&BOUNDS, word) {
+    if let Some(name) = bound_named(word) {
         tell(rt, streams, number, name, SINGLE);
     }
+}
+
+fn bound_named(word: &[u8]) -> Option<&'static str> {
+    BOUNDS
+        .iter()
+        .find(|bound| bound.as_bytes() == word)
+        .copied()
 }
 
 fn tell_setting<R: Eprint>(rt: &R, streams: Streams, name: &str) {
@@ -114,10 +118,10 @@ fn said(input: &[u8]) -> Option<u64> {
         let Some(word) = words.next() else {
             continue;
         };
-        if value_named(&CORE, word).is_some() {
+        if word == CORE {
             return None;
         }
-        if value_named(&OUTSTANDING, word).is_some() {
+        if word == OUTSTANDING {
             return parse_number(words.next()?);
         }
     }

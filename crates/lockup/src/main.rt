@@ -34,7 +34,7 @@ mod subcommand;
 mod table;
 mod threads;
 mod walk;
-mod what_if;
+mod what_breaks;
 
 fn main(rt: HostRuntime) -> ExitCode {
     let is_watched = rt.stderr().is_terminal();

@@ -1,6 +1,7 @@
 //! The program `lockup`: reads its command line, and does what the subcommand in it asks for. Most read one text and
 //! print what it comes to: each of these is a [`Subcommand`](subcommand::Subcommand), in a file of its own (`test` in
-//! `exercise`, `litmus` in `threads`, `walk --part` in `part`, `run` in `programs`, `try` in `prompt`).
+//! `exercise`, `litmus` in `threads`, `walk --part` in `part`, `run` in `programs`, `try` in `prompt`, `what-if` in
+//! `what_breaks`).
 //!
 //! Answers go to standard output, through one buffer. A fault goes to standard error as one line, after all
 //! answers that came before it. Threads are started only by a litmus test that runs over threads, for the rounds of a
